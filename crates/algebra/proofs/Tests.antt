@@ -1,0 +1,37 @@
+-- Tests that compute: a conjunction taken apart, and a rule proved at every number below a bound by one computed test.
+-- Assumes nothing.
+use mathlib.Core.Path.{_≡_, refl}
+use mathlib.Core.Bool.{Bool, true, false, _&&_}
+use Prim.Native.Nat.{ℕ, zero, suc, _<_}
+use native.Mathlib.Decide.{decLt}
+use native.Mathlib.Omega.{arith}
+use lib.Dec.{T}
+
+pub and-left : (a b : Bool) → T (a && b) → T a
+and-left true b t = tt
+and-left false b t = t
+
+pub and-right : (a b : Bool) → T (a && b) → T b
+and-right true b t = t
+and-right false b t = absurd t
+
+pub and-both : (a b : Bool) → T a → T b → T (a && b)
+and-both true b s t = t
+and-both false b s t = s
+
+pub is-true : (b : Bool) → T b → b ≡ true
+is-true true t = refl
+is-true false t = absurd t
+
+-- the test f passes at each number below n
+abbrev pub every : ℕ → (ℕ → Bool) → Bool
+every zero f = true
+every (suc n) f = f n && every n f
+
+pub every-at : (n : ℕ) (f : ℕ → Bool) → T (every n f) → (k : ℕ) → k < n → T (f k)
+every-at zero f t k h = absurd (omega arith)
+every-at (suc n) f t k h = pick (decLt k n) (every-at n f (and-right (f n) (every n f) t) k)
+  where
+    pick : Dec (k < n) → (k < n → T (f k)) → T (f k)
+    pick (yes l) below = below l
+    pick (no l) below = let e : k ≡ n = omega arith in rw e (and-left (f n) (every n f) t)

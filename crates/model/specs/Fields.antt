@@ -1,0 +1,67 @@
+-- The paper, "Fields and parties": the four fields, and who may share with which threshold.
+-- Assumes nothing.
+use mathlib.Core.Path.{_≡_}
+use mathlib.Core.Bool.{Bool, _&&_}
+use mathlib.Core.List.{List, [], _∷_}
+use Prim.Native.Nat.{ℕ, zero, suc, _+_, _*_, _/_, _%_, _^_, _≤_, _<_}
+use lib.Dec.{leb}
+use lib.ListN.{getD}
+use Rattle.algebra.specs.Ring.{mul}
+
+-- "Four fields are held in one constant table": number, p, bits ℓ, largest k.
+abbrev pub moduli : List ℕ
+moduli = 13 ∷ 251 ∷ 65521 ∷ 2147483647 ∷ []
+
+abbrev pub bitLengths : List ℕ
+bitLengths = 4 ∷ 8 ∷ 16 ∷ 31 ∷ []
+
+abbrev pub largestKs : List ℕ
+largestKs = 3 ∷ 7 ∷ 15 ∷ 30 ∷ []
+
+unfoldable pub modulus : ℕ → ℕ
+modulus f = getD moduli f 0
+
+unfoldable pub bits : ℕ → ℕ
+bits f = getD bitLengths f 0
+
+unfoldable pub largestK : ℕ → ℕ
+largestK f = getD largestKs f 0
+
+-- 1/d modulo p for d from 1 to 7, and 0 for 0: (1 + k p) / d with the k below d that leaves no remainder. (p^12 is 1 modulo d.)
+unfoldable pub inverse : ℕ → ℕ → ℕ
+inverse p zero = 0
+inverse p (suc e) = (1 + e * p ^ 11 % suc e * p) / suc e
+
+-- 2^m modulo p, and its inverse: m times the half of 1, which is (p + 1) / 2
+unfoldable pub powerOf2 : ℕ → ℕ → ℕ
+powerOf2 p m = 2 ^ m % p
+
+unfoldable pub inversePowerOf2 : ℕ → ℕ → ℕ
+inversePowerOf2 p zero = 1
+inversePowerOf2 p (suc m) = mul p ((p + 1) / 2) (inversePowerOf2 p m)
+
+-- What arithmetic uses of p. It does not ask that p is prime.
+pub record Modulus (p : ℕ) : Type 0 where
+  pub above : 7 < p
+  pub odd : p % 2 ≡ 1
+  pub word : p < 2 ^ 31
+  pub units : (d : ℕ) → 0 < d → d < 8 → mul p d (inverse p d) ≡ 1
+
+-- What else is used of p, its bits l and its largest k.
+pub record Field (p l k : ℕ) : Type 0 where
+  pub modulus-is : Modulus p
+  pub bits-hold : p < 2 ^ l
+  pub range-fits : 2 ^ k < p
+  pub k-least : 2 ≤ k
+  pub k-most : k < 31
+
+-- "Parties: 3 to 7, threshold t at least 1, 2t + 1 at most n."
+pub record Parties (n t : ℕ) : Type 0 where
+  pub least : 3 ≤ n
+  pub most : n ≤ 7
+  pub threshold : 1 ≤ t
+  pub majority : 2 * t + 1 ≤ n
+
+-- `Parties` as a test
+unfoldable pub parties : ℕ → ℕ → Bool
+parties n t = leb 3 n && leb n 7 && leb 1 t && leb (2 * t + 1) n

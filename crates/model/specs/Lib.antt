@@ -1,0 +1,5 @@
+pub mod Fields
+pub mod Coding
+pub mod Sharing
+pub mod Entries
+pub mod Shamir
