@@ -5,6 +5,7 @@ use mathlib.Core.Bool.{_&&_}
 use mathlib.Core.Logic.{_↔_}
 use mathlib.Core.List.{List, [], _∷_, _++_, append-assoc, append-nil, List·Memᴰ as In, List·Memᴰ·head as here, List·Memᴰ·tail as there}
 use Prim.Native.Nat.{ℕ, zero, suc, _+_, _-_, _*_, _≤_, _<_, zero-le}
+use native.Mathlib.Decide.{decLt}
 use native.Mathlib.Numerals.{add-one}
 use native.Mathlib.Omega.{arith}
 use lib.Dec.{T, ltb, ltb→lt, lt→ltb}
@@ -41,6 +42,15 @@ pub in-from : (k m : ℕ) {z : ℕ} → In z (from k m) → (k ≤ z) × (z < k 
 unfolding from
 in-from k (suc m) (here e) = omega arith
 in-from k (suc m) (there i) = omega (arith, in-from (suc k) m i)
+
+pub from-in : (k m z : ℕ) → k ≤ z → z < k + m → In z (from k m)
+unfolding from
+from-in k zero z a b = absurd (omega arith)
+from-in k (suc m) z a b = pick (decLt k z) (λ l. from-in (suc k) m z l (omega arith))
+  where
+    pick : Dec (k < z) → (k < z → In z (from (suc k) m)) → In z (k ∷ from (suc k) m)
+    pick (yes l) next = there (next l)
+    pick (no l) next = let e : z ≡ k = omega arith in here e
 
 pub length-from : (k m : ℕ) → length (from k m) ≡ m
 unfolding from

@@ -25,13 +25,16 @@ field-test p l k = modulus-test p && (ltb p (2 ^ l) && (ltb (2 ^ k) p && (leb 2 
 table-test : ℕ → Bool
 table-test f = field-test (modulus f) (bits f) (largestK f)
 
-modulus-facts : (p : ℕ) → T (modulus-test p) → Modulus p
+modulus-facts : (f p : ℕ) → f < 4 → p ≡ modulus f → T (modulus-test p) → Modulus p
 unfolding modulus-test unit-test
-modulus-facts p t =
+modulus-facts f p l e t =
     let odd = and-right (ltb 7 p) _ t in
     let word = and-right (eqb (p % 2) 1) _ odd in
     let units = and-right (ltb p (2 ^ 31)) _ word in
     record {
+      number = f;
+      listed = l;
+      is = e;
       above = ltb→lt 7 p (and-left (ltb 7 p) _ t);
       odd = eqb→eq (p % 2) 1 (and-left (eqb (p % 2) 1) _ odd);
       word = ltb→lt p (2 ^ 31) (and-left (ltb p (2 ^ 31)) _ word);
@@ -42,14 +45,14 @@ modulus-facts p t =
     unit t zero a b = absurd (omega arith)
     unit t (suc e) a b = eqb→eq (mul p (suc e) (inverse p (suc e))) 1 (every-at 7 (unit-test p) t e (omega arith))
 
-field-facts : (p l k : ℕ) → T (field-test p l k) → Field p l k
+field-facts : (f p l k : ℕ) → f < 4 → p ≡ modulus f → T (field-test p l k) → Field p l k
 unfolding field-test
-field-facts p l k t =
+field-facts f p l k h e t =
     let hold = and-right (modulus-test p) _ t in
     let fit = and-right (ltb p (2 ^ l)) _ hold in
     let least = and-right (ltb (2 ^ k) p) _ fit in
     record {
-      modulus-is = modulus-facts p (and-left (modulus-test p) _ t);
+      modulus-is = modulus-facts f p h e (and-left (modulus-test p) _ t);
       bits-hold = ltb→lt p (2 ^ l) (and-left (ltb p (2 ^ l)) _ hold);
       range-fits = ltb→lt (2 ^ k) p (and-left (ltb (2 ^ k) p) _ fit);
       k-least = leb→le 2 k (and-left (leb 2 k) _ least);
@@ -59,7 +62,7 @@ field-facts p l k t =
 -- every field of the table
 pub fields : (f : ℕ) → f < 4 → Field (modulus f) (bits f) (largestK f)
 unfolding table-test field-test modulus-test unit-test modulus bits largestK inverse mul
-fields f h = field-facts (modulus f) (bits f) (largestK f) (every-at 4 table-test tt f h)
+fields f h = field-facts f (modulus f) (bits f) (largestK f) h refl (every-at 4 table-test tt f h)
 
 pub parties-facts : (n t : ℕ) → T (parties n t) → Parties n t
 unfolding parties

@@ -23,13 +23,14 @@ tried passes number next = cond passes next number
 abbrev pub given {ℓ} : {A : Type ℓ} → ℕ → A → A → A
 given number done refused = cond (eqb number 0) done refused
 
+-- 2, 3 and 4, which share and recover try alike, the two lists' lengths being right or not
+abbrev pub fitted : ℕ → ℕ → ℕ → Bool → ℕ → ℕ
+fitted f n t lengths next = tried (ltb f 4) 2 (tried (parties n t) 3 (tried lengths 4 next))
+
 -- share: secret s, coefficients cs, and the lent list of shares, out before the call
 unfoldable pub shareNumber : ℕ → ℕ → ℕ → ℕ → List ℕ → List ℕ → ℕ
 shareNumber f n t s cs out =
-    tried (ltb f 4) 2
-    (tried (parties n t) 3
-    (tried (eqb (length cs) t && eqb (length out) n) 4
-    (tried (allBelow (modulus f) (s ∷ cs)) 5 0)))
+    fitted f n t (eqb (length cs) t && eqb (length out) n) (tried (allBelow (modulus f) (s ∷ cs)) 5 0)
 
 unfoldable pub shareLeft : ℕ → ℕ → ℕ → ℕ → List ℕ → List ℕ → List ℕ
 shareLeft f n t s cs out = given (shareNumber f n t s cs out) (take n (share (modulus f) n (s ∷ cs))) out
@@ -37,11 +38,8 @@ shareLeft f n t s cs out = given (shareNumber f n t s cs out) (take n (share (mo
 -- recover: a list xs of shares, and the lent list of coefficients, out before the call
 unfoldable pub recoverNumber : ℕ → ℕ → ℕ → List ℕ → List ℕ → ℕ
 recoverNumber f n t xs out =
-    tried (ltb f 4) 2
-    (tried (parties n t) 3
-    (tried (eqb (length xs) n && eqb (length out) t) 4
-    (tried (allBelow (modulus f) xs) 5
-    (tried (isSharing (modulus f) n t (padded xs)) 6 0))))
+    fitted f n t (eqb (length xs) n && eqb (length out) t)
+    (tried (allBelow (modulus f) xs) 5 (tried (isSharing (modulus f) n t (padded xs)) 6 0))
 
 unfoldable pub recoverValue : ℕ → ℕ → ℕ → List ℕ → List ℕ → ℕ
 recoverValue f n t xs out = given (recoverNumber f n t xs out) (secret (modulus f) t (padded xs)) 0

@@ -40,8 +40,11 @@ unfoldable pub inversePowerOf2 : ℕ → ℕ → ℕ
 inversePowerOf2 p zero = 1
 inversePowerOf2 p (suc m) = mul p ((p + 1) / 2) (inversePowerOf2 p m)
 
--- What arithmetic uses of p. It does not ask that p is prime.
+-- p is one of the table's moduli, with what arithmetic uses of it. Nothing asks that p is prime.
 pub record Modulus (p : ℕ) : Type 0 where
+  pub number : ℕ
+  pub listed : number < 4
+  pub is : p ≡ modulus number
   pub above : 7 < p
   pub odd : p % 2 ≡ 1
   pub word : p < 2 ^ 31
