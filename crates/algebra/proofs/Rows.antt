@@ -72,13 +72,27 @@ take-row n f = take-at (tab n f) _ n (length-tab n f)
 pub padded-tab : (n : ℕ) (f : ℕ → ℕ) → padded (tab n f) ≡ row n f
 padded-tab n f = rw length-tab (row-ext n _ f (λ j h. getD-tab n f j h))
 
--- a loop over the columns: one more share
-pub row-more : (n : ℕ) (f : ℕ → ℕ) (v : ℕ) {l : List ℕ} → l ≡ row n f → v ≡ f n → n < 7 → set l n v ≡ row (n + 1) f
-unfolding row
-row-more n f v e q h =
-    let m : 7 - n ≡ suc (7 - suc n) = omega arith in
-    let z : replicate {A = ℕ} (7 - n) 0 ≡ 0 ∷ replicate (7 - suc n) 0 = rw m in
-    rw (e, q, add-one, z, set-at (tab n f) 0 (replicate (7 - suc n) 0) (f n) n (length-tab n f), tab-more, append-assoc)
+-- A loop over the columns, one law for each of its needs: after j turns l holds the first j shares of f's row.
+pub record Filling (n : ℕ) (f : ℕ → ℕ) (j : ℕ) (l : List ℕ) : Type 0 where
+  pub within : j ≤ n
+  pub is : l ≡ row j f
+
+pub filling-start : (n : ℕ) (f : ℕ → ℕ) → Filling n f 0 (0 ∷ 0 ∷ 0 ∷ 0 ∷ 0 ∷ 0 ∷ 0 ∷ [])
+unfolding row tab
+filling-start n f = record { within = omega arith; is = refl }
+
+pub filling-more : {n : ℕ} {f : ℕ → ℕ} {j : ℕ} {l : List ℕ} {v : ℕ} → Filling n f j l → j < n → n ≤ 7 → v ≡ f j → Filling n f (j + 1) (set l j v)
+filling-more {n} {f} {j} {l} {v} F h k q = record { within = omega arith; is = go (F .is) }
+  where
+    go : l ≡ row j f → set l j v ≡ row (j + 1) f
+    go e =
+        unfold row in
+        let m : 7 - j ≡ suc (7 - suc j) = omega arith in
+        let z : replicate {A = ℕ} (7 - j) 0 ≡ 0 ∷ replicate (7 - suc j) 0 = rw m in
+        rw (e, q, add-one, z, set-at (tab j f) 0 (replicate (7 - suc j) 0) (f j) j (length-tab j f), tab-more, append-assoc)
+
+pub filling-end : {n : ℕ} {f : ℕ → ℕ} {j : ℕ} {l : List ℕ} → Filling n f j l → n ≤ j → l ≡ row n f
+filling-end {n} {f} {j} F h = let e : j ≡ n = omega arith in rw e at (F .is)
 
 pub row-below : (p n : ℕ) (f : ℕ → ℕ) → 0 < p → ((j : ℕ) → j < n → f j < p) → (j : ℕ) → getD (row n f) j 0 < p
 row-below p n f h b j = go (decLt j n)
