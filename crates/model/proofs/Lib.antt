@@ -1,4 +1,5 @@
 pub mod Fields
+pub mod Coding
 pub mod Polynomials
 pub mod Sharings
 pub mod Weights

@@ -1,0 +1,75 @@
+// The constant table of the four fields, by field number.
+ghost use mathlib.Core.Path.{_≡_};
+ghost use Prim.Native.Nat.{_<_};
+ghost use Rattle.model.specs.Fields as Fields;
+
+const MODULI: [u32; 4] = [13, 251, 65521, 2147483647];
+
+const BITS: [u32; 4] = [4, 8, 16, 31];
+
+const LARGEST_K: [u32; 4] = [3, 7, 15, 30];
+
+// Eight to a field: the inverses of 0 to 7, with 0 for that of 0.
+const INVERSES: [u32; 32] = [
+    0,
+    1,
+    7,
+    9,
+    10,
+    8,
+    11,
+    2,
+    0,
+    1,
+    126,
+    84,
+    63,
+    201,
+    42,
+    36,
+    0,
+    1,
+    32761,
+    43681,
+    49141,
+    52417,
+    54601,
+    56161,
+    0,
+    1,
+    1073741824,
+    1431655765,
+    536870912,
+    858993459,
+    1789569706,
+    1840700269,
+];
+
+pub fn modulus(field: usize) -> u32
+    requires { ⌜ field < 4 ⌝ }
+    ensures { λ r. ⌜ (r ≡ Fields.modulus field) × Fields.Modulus r ⌝ }
+{
+    MODULI[field]
+}
+
+pub fn bits(field: usize) -> u32
+    requires { ⌜ field < 4 ⌝ }
+    ensures { λ r. ⌜ r ≡ Fields.bits field ⌝ }
+{
+    BITS[field]
+}
+
+pub fn largest_k(field: usize) -> u32
+    requires { ⌜ field < 4 ⌝ }
+    ensures { λ r. ⌜ r ≡ Fields.largestK field ⌝ }
+{
+    LARGEST_K[field]
+}
+
+// 1/d modulo p, and 0 for d = 0.
+pub fn inverse(field: usize, d: usize) -> u32
+    requires { ⌜ (field < 4) × (d < 8) ⌝ }
+    ensures { λ r. ⌜ r ≡ Fields.inverse (Fields.modulus field) d ⌝ }
+{
+    INVERSES[8 * field + d]
+}

@@ -1,0 +1,101 @@
+-- `codes`: what coding promises, in every field of the table; and laws of range, code and reading for the crates that compute them.
+-- Assumes nothing.
+use mathlib.Core.Path.{_≡_, refl, sym, ap, _∙_}
+use mathlib.Core.Bool.{Bool, true, false, _&&_, cond}
+use Prim.Native.Nat.{ℕ, suc, _+_, _-_, _*_, _/_, _%_, _^_, _≤_, _<_}
+use native.Mathlib.Nat.{mod-lt, mod-eq-of-lt, div-add-mod', pow-suc}
+use native.Mathlib.Decide.{decLt}
+use native.Mathlib.Omega.{arith}
+use borrow.Author.Tests.{ltb-true, lt-ltb, le-leb, lt-leb}
+use lib.Dec.{T, ltb, leb, leb·suc-suc, lt→ltb}
+use lib.IntN.{ℤ, pos, negsuc, negℤ, subℕ}
+use lib.Pow.{pow-pos, pow-mono}
+use lib.Signed.{mag, nonNeg, leZ, ltZ, shrZ}
+use Rattle.algebra.proofs.Tests.{is-true}
+use Rattle.model.specs.Fields.{modulus, largestK, Field}
+use Rattle.model.specs.Coding.{inRange, code, readBack, Modulo, Codes}
+use Rattle.model.proofs.Fields.{fields}
+
+-- the k-bit range is a bound of the magnitude
+pub in-range : (k : ℕ) (a : ℤ) → inRange k a ≡ ltb (mag a) (2 ^ (k - 1))
+unfolding inRange
+in-range k a = go (2 ^ (k - 1)) a (pow-pos (k - 1))
+  where
+    and-true : (b : Bool) → b && true ≡ b
+    and-true true = refl
+    and-true false = refl
+
+    go : (H : ℕ) (a : ℤ) → 0 < H → leZ (negℤ (pos H)) a && ltZ a (pos H) ≡ ltb (mag a) H
+    go (suc H) (pos n) h = refl
+    go (suc H) (negsuc n) h = and-true (leb n H) ∙ sym (leb·suc-suc n H)
+
+-- the code of a number whose magnitude is below p
+pub code-small : (p : ℕ) (a : ℤ) → mag a < p → code p a ≡ cond (nonNeg a) (mag a) (p - 1 - mag a)
+unfolding code
+code-small p (pos n) h = mod-eq-of-lt h
+code-small p (negsuc n) h = rw (mod-eq-of-lt h) (omega arith)
+
+-- a difference that is negative
+below-zero : (a b n : ℕ) → b ≡ a + suc n → subℕ a b ≡ negsuc n
+below-zero a b n e = rw (lt-ltb a b (omega arith)) (ap negsuc (omega arith))
+
+-- a value up to the middle, and one past it
+pub reads-up : (p v : ℕ) → v ≤ (p - 1) / 2 → readBack p v ≡ pos v
+unfolding readBack
+reads-up p v h = rw (le-leb v ((p - 1) / 2) h)
+
+pub reads-down : (p v : ℕ) → (p - 1) / 2 < v → v < p → readBack p v ≡ negsuc (p - 1 - v)
+unfolding readBack
+reads-down (suc p) v h l = rw (lt-leb v ((suc p - 1) / 2) h) (below-zero v (suc p) _ (omega arith))
+
+code-below : (p : ℕ) (a : ℤ) → 0 < p → code p a < p
+unfolding code
+code-below p (pos n) h = mod-lt n h
+code-below p (negsuc n) h = omega arith
+
+-- a is its code plus p times the floor of a / p
+code-modulo : (p : ℕ) (a : ℤ) → 0 < p → Modulo p a (code p a)
+unfolding code
+code-modulo p (pos n) h = record { multiple = shrZ (pos n) p; is = ap pos (omega (arith, div-add-mod' n p)) }
+code-modulo p (negsuc n) h =
+    let e : suc (n / p) * p ≡ suc (n + (p - suc (n % p))) = omega (arith, div-add-mod' n p, mod-lt n h) in
+    record { multiple = shrZ (negsuc n) p; is = rw e (sym (below-zero (p - suc (n % p)) (suc (n + (p - suc (n % p)))) n (omega arith))) }
+
+read-code : (p : ℕ) (a : ℤ) → p % 2 ≡ 1 → mag a + mag a + 1 < p → readBack p (code p a) ≡ a
+read-code p (pos n) o h = rw (code-small p (pos n) (omega arith)) (reads-up p n (omega arith))
+read-code p (negsuc n) o h =
+    rw (code-small p (negsuc n) (omega arith)) (reads-down p (p - 1 - n) (omega arith) (omega arith) ∙ ap negsuc (omega arith))
+
+code-read : (p v : ℕ) → v < p → code p (readBack p v) ≡ v
+code-read p v h = go (decLt ((p - 1) / 2) v)
+  where
+    go : Dec ((p - 1) / 2 < v) → code p (readBack p v) ≡ v
+    go (yes l) = rw (reads-down p v l h, code-small p (negsuc (p - 1 - v)) (omega arith)) (omega arith)
+    go (no l) = rw (reads-up p v (omega arith), code-small p (pos v) h)
+
+-- the magnitude of a range's lowest number
+lowest-mag : (H : ℕ) → 0 < H → mag (negℤ (pos H)) < H
+lowest-mag (suc H) h = omega arith
+
+in-range-of : (k : ℕ) (a : ℤ) → mag a < 2 ^ (k - 1) → T (inRange k a)
+in-range-of k a h = rw in-range (lt→ltb (mag a) (2 ^ (k - 1)) h)
+
+-- twice the magnitude of a number in range is below p - 1
+pub range-small : {p l K : ℕ} → Field p l K → (k : ℕ) (a : ℤ) → 2 ≤ k → k ≤ K → inRange k a ≡ true → mag a + mag a + 1 < p
+range-small {p} {l} {K} F k a h m t =
+    let small : mag a < 2 ^ (k - 1) = ltb-true (mag a) (2 ^ (k - 1)) (rw in-range at t) in
+    let fits : 2 ^ suc (k - 1) ≤ 2 ^ K = pow-mono (omega arith) in
+    omega (arith, pow-suc 2 (k - 1))
+
+field-codes : {p l K : ℕ} → Field p l K → Codes p K
+field-codes {p} {l} {K} F = record {
+  below = λ a. code-below p a (omega arith);
+  modulo = λ a. code-modulo p a (omega arith);
+  lowest = λ k. in-range-of k _ (lowest-mag (2 ^ (k - 1)) (pow-pos (k - 1)));
+  highest = λ k. in-range-of k _ (omega (arith, pow-pos (k - 1)));
+  reading-undoes = λ k a h m t. read-code p a (F .modulus-is .odd) (range-small F k a h m (is-true (inRange k a) t));
+  coding-undoes = code-read p;
+}
+
+pub codes : (f : ℕ) → f < 4 → Codes (modulus f) (largestK f)
+codes f h = field-codes (fields f h)
