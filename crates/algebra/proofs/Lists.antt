@@ -1,13 +1,14 @@
 -- Laws of `Below`, `from`, `total` and `over`.
 -- Assumes nothing.
 use mathlib.Core.Path.{_≡_, refl, sym, ap, _∙_}
-use mathlib.Core.Bool.{_&&_}
+use mathlib.Core.Bool.{true, false, _&&_}
 use mathlib.Core.Logic.{_↔_}
 use mathlib.Core.List.{List, [], _∷_, _++_, append-assoc, append-nil, List·Memᴰ as In, List·Memᴰ·head as here, List·Memᴰ·tail as there}
 use Prim.Native.Nat.{ℕ, zero, suc, _+_, _-_, _*_, _≤_, _<_, zero-le}
 use native.Mathlib.Decide.{decLt}
 use native.Mathlib.Numerals.{add-one}
 use native.Mathlib.Omega.{arith}
+use borrow.Author.Tests.{lt-ltb, le-ltb}
 use lib.Dec.{T, ltb, ltb→lt, lt→ltb}
 use lib.ListN.{length, getD, take, drop, set, length-append, length-drop, drop-of-length-le}
 use lib.Seq.{drop-cons, take-suc, length-take-le, set-at}
@@ -37,6 +38,28 @@ all-below p (x ∷ xs) = (
   λ t. below-cons (ltb→lt x p (and-left (ltb x p) (allBelow p xs) t)) (all-below p xs .0 (and-right (ltb x p) (allBelow p xs) t)),
   λ b. and-both (ltb x p) (allBelow p xs) (lt→ltb x p (below-head b)) (all-below p xs .1 (below-tail b)),
 )
+
+-- the test by the first number
+pub below-first : (p x : ℕ) (xs : List ℕ) → x < p → allBelow p (x ∷ xs) ≡ allBelow p xs
+unfolding allBelow
+below-first p x xs h = rw (lt-ltb x p h)
+
+pub first-fails : (p x : ℕ) (xs : List ℕ) → p ≤ x → allBelow p (x ∷ xs) ≡ false
+unfolding allBelow
+first-fails p x xs h = rw (le-ltb x p h)
+
+-- the test from place i on: one number more, one that fails it, and the end
+pub below-more : (p : ℕ) (xs : List ℕ) (i : ℕ) → i < length xs → getD xs i 0 < p → allBelow p (drop i xs) ≡ allBelow p (drop (i + 1) xs)
+unfolding allBelow
+below-more p xs i h k = rw (add-one, drop-cons xs i 0 h, lt-ltb (getD xs i 0) p k)
+
+pub below-fails : (p : ℕ) (xs : List ℕ) (i : ℕ) → i < length xs → p ≤ getD xs i 0 → allBelow p (drop i xs) ≡ false
+unfolding allBelow
+below-fails p xs i h k = rw (drop-cons xs i 0 h, le-ltb (getD xs i 0) p k)
+
+pub below-end : (p : ℕ) (xs : List ℕ) (i : ℕ) → length xs ≤ i → allBelow p (drop i xs) ≡ true
+unfolding allBelow
+below-end p xs i h = rw (drop-of-length-le xs {i = i} h)
 
 pub in-from : (k m : ℕ) {z : ℕ} → In z (from k m) → (k ≤ z) × (z < k + m)
 unfolding from
@@ -84,11 +107,31 @@ pub over-all : (vs xs : List ℕ) → length xs ≤ length vs → over vs xs ≡
 unfolding over
 over-all vs xs h = rw (drop-of-length-le xs {i = length vs} h, append-nil)
 
--- one number more of a write
-pub over-more : (vs xs : List ℕ) (j v : ℕ) {l : List ℕ} → l ≡ over (take j vs) xs → j < length vs → j < length xs → v ≡ getD vs j 0
-    → set l j v ≡ over (take (j + 1) vs) xs
+-- A loop that writes the first n numbers of vs over the start of xs, one law for each of its needs: after j turns l has j of them.
+pub record Writing (vs xs : List ℕ) (n j : ℕ) (l : List ℕ) : Type 0 where
+  pub within : j ≤ n
+  pub is : l ≡ over (take j vs) xs
+
+pub writing-start : (vs xs : List ℕ) (n : ℕ) → Writing vs xs n 0 xs
 unfolding over
-over-more vs xs j v e hv hx q =
+writing-start vs xs n = record { within = omega arith; is = refl }
+
+pub writing-more : {vs xs : List ℕ} {n j : ℕ} {l : List ℕ} {v : ℕ} → Writing vs xs n j l → j < n → n ≤ length vs → n ≤ length xs → v ≡ getD vs j 0
+    → Writing vs xs n (j + 1) (set l j v)
+writing-more {vs} {xs} {n} {j} {l} {v} W h hv hx q = record { within = omega arith; is = go (W .is) }
+  where
+    go : l ≡ over (take j vs) xs → set l j v ≡ over (take (j + 1) vs) xs
+    go e =
+        unfold over in
+        let s : length (take j vs) ≡ j = length-take-le j vs (omega arith) in
+        let s′ : length (take (suc j) vs) ≡ suc j = length-take-le (suc j) vs (omega arith) in
+        rw (e, q, add-one, s, s′, drop-cons xs j 0 (omega arith), take-suc vs j 0 (omega arith), append-assoc)
+        (set-at (take j vs) (getD xs j 0) (drop (suc j) xs) (getD vs j 0) j s)
+
+pub writing-end : {vs xs : List ℕ} {n j : ℕ} {l : List ℕ} → Writing vs xs n j l → n ≤ j → l ≡ over (take n vs) xs
+writing-end {n = n} {j} W h = let e : j ≡ n = omega arith in rw e at (W .is)
+
+pub writing-length : {vs xs : List ℕ} {n j : ℕ} {l : List ℕ} → Writing vs xs n j l → n ≤ length vs → n ≤ length xs → length l ≡ length xs
+writing-length {vs} {xs} {n} {j} W hv hx =
     let s : length (take j vs) ≡ j = length-take-le j vs (omega arith) in
-    let s′ : length (take (suc j) vs) ≡ suc j = length-take-le (suc j) vs (omega arith) in
-    rw (e, q, add-one, s, s′, drop-cons xs j 0 hx, take-suc vs j 0 hv, append-assoc, set-at (take j vs) (getD xs j 0) (drop (suc j) xs) (getD vs j 0) j s)
+    ap length (W .is) ∙ length-over (take j vs) xs (omega arith)

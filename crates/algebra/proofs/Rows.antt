@@ -1,16 +1,18 @@
 -- Laws of `tab` and `row`.
 -- Assumes nothing.
 use mathlib.Core.Path.{_≡_, refl, sym, ap, _∙_}
+use mathlib.Core.Bool.{true, false}
 use mathlib.Core.List.{List, [], _∷_, _++_, append-assoc}
 use Prim.Native.Nat.{ℕ, zero, suc, _+_, _-_, _≤_, _<_}
 use native.Mathlib.Nat.{not-suc-le-zero, le-of-suc-le-suc}
 use native.Mathlib.Decide.{decLt}
 use native.Mathlib.Numerals.{add-one}
 use native.Mathlib.Omega.{arith}
-use lib.ListN.{length, getD, set, take, replicate, length-append, length-replicate, getD-replicate, List·getD-append, List·getD-eq-default}
+use lib.ListN.{length, getD, set, take, drop, replicate, length-append, length-replicate, getD-replicate, List·getD-append, List·getD-eq-default}
 use lib.Seq.{ext-getD, take-at, set-at, getD-append-add, append-snoc}
-use Rattle.algebra.specs.Lists.{Below}
-use Rattle.algebra.specs.Rows.{tab, row, padded, on}
+use Rattle.algebra.specs.Lists.{allBelow}
+use Rattle.algebra.specs.Rows.{tab, row, padded}
+use Rattle.algebra.proofs.Lists.{below-more, below-fails, below-end}
 
 pub length-tab : (n : ℕ) (f : ℕ → ℕ) → length (tab n f) ≡ n
 unfolding tab
@@ -100,3 +102,13 @@ row-below p n f h b j = go (decLt j n)
     go : Dec (j < n) → getD (row n f) j 0 < p
     go (yes l) = rw (row-at n f j l) (b j l)
     go (no l) = rw (row-past n f j (omega arith)) h
+
+-- the test of the shares below p, from column j on: one share more, and one that fails it
+pub tab-below-more : (p n : ℕ) (f : ℕ → ℕ) (j : ℕ) → j < n → f j < p → allBelow p (drop j (tab n f)) ≡ allBelow p (drop (j + 1) (tab n f))
+tab-below-more p n f j h k = below-more p (tab n f) j (rw length-tab h) (rw (getD-tab n f j h) k)
+
+pub tab-below-fails : (p n : ℕ) (f : ℕ → ℕ) (j : ℕ) → j < n → p ≤ f j → allBelow p (drop j (tab n f)) ≡ false
+tab-below-fails p n f j h k = below-fails p (tab n f) j (rw length-tab h) (rw (getD-tab n f j h) k)
+
+pub tab-below-end : (p n : ℕ) (f : ℕ → ℕ) (j : ℕ) → n ≤ j → allBelow p (drop j (tab n f)) ≡ true
+tab-below-end p n f j h = below-end p (tab n f) j (rw length-tab h)

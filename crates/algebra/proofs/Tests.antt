@@ -23,6 +23,10 @@ pub is-true : (b : Bool) → T b → b ≡ true
 is-true true t = refl
 is-true false t = absurd t
 
+pub is-false : (b : Bool) → (T b → ⊥) → b ≡ false
+is-false true f = absurd (f tt)
+is-false false f = refl
+
 -- the test f passes at each number below n
 abbrev pub every : ℕ → (ℕ → Bool) → Bool
 every zero f = true

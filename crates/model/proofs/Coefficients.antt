@@ -10,10 +10,10 @@ use Rattle.algebra.specs.Ring.{add, sub, mul}
 use Rattle.algebra.specs.Lists.{Below, from}
 use Rattle.algebra.specs.Rows.{row}
 use Rattle.algebra.proofs.Ring.{ring, mod-ring, reduced, both-reduced, given, mul-lt}
-use Rattle.algebra.proofs.Lists.{in-from, from-in, length-from}
+use Rattle.algebra.proofs.Lists.{below-head, in-from, from-in, length-from}
 use Rattle.algebra.proofs.Rows.{row-at, row-ext}
 use Rattle.model.specs.Fields.{Modulus, inverse}
-use Rattle.model.specs.Sharing.{eval, interpolate, at, recover, weighted}
+use Rattle.model.specs.Sharing.{eval, interpolate, at, recover, secret}
 use Rattle.model.proofs.Polynomials.{positive, eval-lt, length-interpolate, below-interpolate, interpolate-eval}
 use Rattle.model.proofs.Sharings.{nodes-from}
 use Rattle.model.proofs.Weights.{value-before, weighted-cong}
@@ -32,6 +32,15 @@ pub recovered-value : {p : ℕ} → Modulus p → (t : ℕ) (x : List ℕ) (j : 
 unfolding recover
 recovered-value M t x j l k =
     interpolate-eval M (from 1 (suc t)) (at 0 x) (nodes-from 1 (suc t) (omega arith)) (from-in 1 (suc t) (suc j) (omega arith) (omega arith))
+
+-- the secret is the first coefficient
+pub constant-term : {p : ℕ} → Modulus p → (t : ℕ) (x : List ℕ) → secret p t x ≡ getD (recover p t x) 0 0
+unfolding secret
+constant-term {p} M t x = first (recover p t x) (length-recover p t x) (below-recover M t x)
+  where
+    first : (cs : List ℕ) → length cs ≡ suc t → Below p cs → eval p cs 0 ≡ getD cs 0 0
+    first [] l b = absurd (omega arith)
+    first (c ∷ cs) l b = unfold eval in let h = positive M in reduced (below-head b) (simp mod-ring (ring h _ _ _ _ (omega arith)))
 
 -- the row of the coefficients from k on, as far as m shares
 abbrev pub restRow : ℕ → List ℕ → ℕ → ℕ → List ℕ

@@ -33,44 +33,52 @@ pass : (b : Bool) (number next : ℕ) → T b → tried b number next ≡ next
 pass true number next t = refl
 pass false number next t = absurd t
 
--- a field and parties that the paper permits, and two lists of the right lengths
-pub record Fit (f n t : ℕ) (xs ys : List ℕ) (i j : ℕ) : Type 0 where
+-- a field and parties that the paper permits, and two lengths a and b that are the right ones, i and j
+pub record Fit (f n t a i b j : ℕ) : Type 0 where
   pub field : f < 4
   pub people : Parties n t
-  pub first : length xs ≡ i
-  pub second : length ys ≡ j
-
-lengths : (xs ys : List ℕ) (i j : ℕ) → T (eqb (length xs) i && eqb (length ys) j) → (length xs ≡ i) × (length ys ≡ j)
-lengths xs ys i j t = (
-  eqb→eq (length xs) i (and-left (eqb (length xs) i) (eqb (length ys) j) t),
-  eqb→eq (length ys) j (and-right (eqb (length xs) i) (eqb (length ys) j) t),
-)
+  pub first : a ≡ i
+  pub second : b ≡ j
 
 -- 2, 3 and 4 were passed
-fitted-passed : (f n t : ℕ) (xs ys : List ℕ) (i j next : ℕ) → fitted f n t (eqb (length xs) i && eqb (length ys) j) next ≡ 0 → Fit f n t xs ys i j × (next ≡ 0)
-fitted-passed f n t xs ys i j next e =
-    let a = passed (ltb f 4) 1 _ e in
-    let b = passed (parties n t) 2 _ (a .1) in
-    let c = passed (eqb (length xs) i && eqb (length ys) j) 3 next (b .1) in
-    let l = lengths xs ys i j (c .0) in (
-      record { field = ltb→lt f 4 (a .0); people = parties-facts n t (b .0); first = l .0; second = l .1 },
-      c .1,
+pub fitted-passed : (f n t a i b j next : ℕ) → fitted f n t (eqb a i && eqb b j) next ≡ 0 → Fit f n t a i b j × (next ≡ 0)
+fitted-passed f n t a i b j next e =
+    let x = passed (ltb f 4) 1 _ e in
+    let y = passed (parties n t) 2 _ (x .1) in
+    let z = passed (eqb a i && eqb b j) 3 next (y .1) in (
+      record {
+        field = ltb→lt f 4 (x .0);
+        people = parties-facts n t (y .0);
+        first = eqb→eq a i (and-left (eqb a i) (eqb b j) (z .0));
+        second = eqb→eq b j (and-right (eqb a i) (eqb b j) (z .0));
+      },
+      z .1,
     )
 
-fitted-pass : {f n t : ℕ} {xs ys : List ℕ} {i j : ℕ} (next : ℕ) → Fit f n t xs ys i j → fitted f n t (eqb (length xs) i && eqb (length ys) j) next ≡ next
-fitted-pass {f} {n} {t} {xs} {ys} {i} {j} next F =
+pub fitted-pass : {f n t a i b j : ℕ} (next : ℕ) → Fit f n t a i b j → fitted f n t (eqb a i && eqb b j) next ≡ next
+fitted-pass {f} {n} {t} {a} {i} {b} {j} next F =
     pass (ltb f 4) 2 _ (lt→ltb f 4 (F .field)) ∙ pass (parties n t) 3 _ (parties-test (F .people))
     ∙ rw (F .first, F .second) (pass (eqb i i && eqb j j) 4 next (and-both (eqb i i) (eqb j j) (eqb-refl i) (eqb-refl j)))
 
+-- one of them refused, whatever comes next
+pub fitted-early : (f n t : ℕ) (lengths : Bool) (next : ℕ) {r : ℕ} → r ≡ fitted f n t lengths 0 → (r ≡ 0 → ⊥) → r ≡ fitted f n t lengths next
+fitted-early f n t lengths next {r} = go (ltb f 4) (parties n t) lengths
+  where
+    go : (a b c : Bool) → r ≡ tried a 2 (tried b 3 (tried c 4 0)) → (r ≡ 0 → ⊥) → r ≡ tried a 2 (tried b 3 (tried c 4 next))
+    go false b c e k = e
+    go true false c e k = e
+    go true true false e k = e
+    go true true true e k = absurd (k e)
+
 -- share's answers
 module _ (f n t s : ℕ) (cs out : List ℕ) where
-  pub share-accepted : shareNumber f n t s cs out ≡ 0 → Fit f n t cs out t n × Below (modulus f) (s ∷ cs)
+  pub share-accepted : shareNumber f n t s cs out ≡ 0 → Fit f n t (length cs) t (length out) n × Below (modulus f) (s ∷ cs)
   unfolding shareNumber
   share-accepted e =
-      let a = fitted-passed f n t cs out t n _ e in
+      let a = fitted-passed f n t (length cs) t (length out) n _ e in
       (a .0, all-below (modulus f) (s ∷ cs) .0 (passed (allBelow (modulus f) (s ∷ cs)) 4 0 (a .1) .0))
 
-  pub share-accepts : Fit f n t cs out t n → Below (modulus f) (s ∷ cs) → shareNumber f n t s cs out ≡ 0
+  pub share-accepts : Fit f n t (length cs) t (length out) n → Below (modulus f) (s ∷ cs) → shareNumber f n t s cs out ≡ 0
   unfolding shareNumber
   share-accepts F b = fitted-pass _ F ∙ pass (allBelow (modulus f) (s ∷ cs)) 5 0 (all-below (modulus f) (s ∷ cs) .1 b)
 
@@ -89,19 +97,19 @@ module _ (f n t : ℕ) (xs out : List ℕ) where
   recover-left e = rw e
 
   -- after 2, 3, 4 and 5 only 6 is left to say
-  pub only-six : Fit f n t xs out n t → Below (modulus f) xs → recoverNumber f n t xs out ≡ tried (isSharing (modulus f) n t (padded xs)) 6 0
+  pub only-six : Fit f n t (length xs) n (length out) t → Below (modulus f) xs → recoverNumber f n t xs out ≡ tried (isSharing (modulus f) n t (padded xs)) 6 0
   unfolding recoverNumber
   only-six F b = fitted-pass _ F ∙ pass (allBelow (modulus f) xs) 5 _ (all-below (modulus f) xs .1 b)
 
-  pub recover-accepts : Fit f n t xs out n t → Below (modulus f) xs → Sharing (modulus f) n t (padded xs) → recoverNumber f n t xs out ≡ 0
+  pub recover-accepts : Fit f n t (length xs) n (length out) t → Below (modulus f) xs → Sharing (modulus f) n t (padded xs) → recoverNumber f n t xs out ≡ 0
   recover-accepts F b s =
       only-six F b
       ∙ pass (isSharing (modulus f) n t (padded xs)) 6 0 (test-exact (fields f (F .field) .modulus-is) (F .people) (padded xs) .1 s)
 
-  pub recover-accepted : recoverNumber f n t xs out ≡ 0 → Fit f n t xs out n t × Below (modulus f) xs × Sharing (modulus f) n t (padded xs)
+  pub recover-accepted : recoverNumber f n t xs out ≡ 0 → Fit f n t (length xs) n (length out) t × Below (modulus f) xs × Sharing (modulus f) n t (padded xs)
   unfolding recoverNumber
   recover-accepted e =
-      let a = fitted-passed f n t xs out n t _ e in
+      let a = fitted-passed f n t (length xs) n (length out) t _ e in
       let b = passed (allBelow (modulus f) xs) 4 _ (a .1) in
       let c = passed (isSharing (modulus f) n t (padded xs)) 5 0 (b .1) in (
         a .0,
@@ -117,7 +125,7 @@ padded-shares p n cs = rw take-row (padded-tab n _)
 shares-padded : (n : ℕ) (xs : List ℕ) → length xs ≡ n → take n (padded xs) ≡ xs
 shares-padded n xs e = rw (e, take-row) (sym (is-tab n _ xs e (λ i h. refl)))
 
-length-shares : (p n : ℕ) (cs : List ℕ) → length (take n (share p n cs)) ≡ n
+pub length-shares : (p n : ℕ) (cs : List ℕ) → length (take n (share p n cs)) ≡ n
 unfolding share
 length-shares p n cs = rw take-row (length-tab n _)
 
@@ -149,7 +157,7 @@ module _ {f n t : ℕ} (h : f < 4) (P : Parties n t) where
       → (recoverNumber f n t xs out′ ≡ 0) × (recoverValue f n t xs out′ ≡ s) × (recoverLeft f n t xs out′ ≡ cs)
   undone s cs out′ l b l′ xs e =
       let q : padded xs ≡ share (modulus f) n (s ∷ cs) = rw e (padded-shares (modulus f) n (s ∷ cs)) in
-      let F : Fit f n t xs out′ n t = record { field = h; people = P; first = ap length e ∙ length-shares _ n (s ∷ cs); second = l′ } in
+      let F : Fit f n t (length xs) n (length out′) t = record { field = h; people = P; first = ap length e ∙ length-shares _ n (s ∷ cs); second = l′ } in
       let N = recover-accepts f n t xs out′ F (rw e (below-shares (positive M) n (s ∷ cs))) (rw q (sharing-of M P (s ∷ cs) (ap suc l) b)) in (
         N,
         recover-value f n t xs out′ N ∙ rw q (secret-share M P (s ∷ cs) (ap suc l) b ∙ eval-zero (positive M) s cs (below-head b)),
@@ -157,14 +165,14 @@ module _ {f n t : ℕ} (h : f < 4) (P : Parties n t) where
       )
 
   redone : (xs out out′ : List ℕ) → length out′ ≡ n → recoverNumber f n t xs out ≡ 0
-      → Fit f n t xs out n t × Below (modulus f) xs × Sharing (modulus f) n t (padded xs)
+      → Fit f n t (length xs) n (length out) t × Below (modulus f) xs × Sharing (modulus f) n t (padded xs)
       → (shareNumber f n t (recoverValue f n t xs out) (recoverLeft f n t xs out) out′ ≡ 0)
       × (shareLeft f n t (recoverValue f n t xs out) (recoverLeft f n t xs out) out′ ≡ xs)
   redone xs out out′ l e (F, b, S) =
       let cs = drop 1 (recover (modulus f) t (padded xs)) in
       let v = secret (modulus f) t (padded xs) in
       let q : v ∷ cs ≡ S .poly = together M P S ∙ recover-sharing M P S in
-      let G : Fit f n t cs out′ t n = record { field = h; people = P; first = omega (arith, ap length q, S .size); second = l } in
+      let G : Fit f n t (length cs) t (length out′) n = record { field = h; people = P; first = omega (arith, ap length q, S .size); second = l } in
       let N = share-accepts f n t v cs out′ G (rw q (S .below)) in
       rw (recover-value f n t xs out e, recover-left f n t xs out e)
       (N, share-left f n t v cs out′ N ∙ rw (q, ← (S .is)) (shares-padded n xs (F .first)))

@@ -1,0 +1,6 @@
+pub mod Sums
+pub mod Horner
+pub mod Testing
+pub mod Recovery
+pub mod Numbers
+pub mod Outcomes

@@ -1,0 +1,131 @@
+// Shamir's sharing: rows of shares, their secrets, and the entries share and recover.
+pub mod polynomial;
+pub mod rows;
+pub mod secret;
+
+ghost use mathlib.Core.Path.{_≡_};
+ghost use mathlib.Core.Bool.{_&&_};
+ghost use mathlib.Core.List.{List};
+ghost use Prim.Native.Nat.{ℕ};
+ghost use lib.Dec.{eqb};
+ghost use lib.ListN.{length};
+ghost use Rattle.algebra.specs.Lists.{allBelow};
+ghost use Rattle.model.specs.Fields as Fields;
+ghost use Rattle.model.specs.Entries.{fitted, shareNumber, shareLeft, recoverNumber, recoverValue, recoverLeft};
+use field::table;
+
+// What recover answers: the paper's number, and the secret, 0 where it refuses.
+pub struct Recovered {
+    pub number: u32,
+    pub value: u32,
+}
+
+// Shares a secret with t coefficients, the first power's first: share j goes to shares[j - 1]. Answers the paper's number: 0, or 2, 3, 4, 5,
+// and then nothing is written.
+pub fn share(
+    field: u32,
+    n: u32,
+    t: u32,
+    secret: u32,
+    coefficients: &[u32],
+    shares: &mut [u32],
+) -> u32
+    ensures { λ r. ⌜ (r ≡ shareNumber field n t secret (now (coefficients .entry)) (now (shares .entry))) × (now (shares .exit) ≡ shareLeft field n t secret (now (coefficients .entry)) (now (shares .entry))) ⌝ }
+{
+    let number = share_number(field, n, t, secret, coefficients, shares.len());
+    if number == 0 {
+        let p = table::modulus(field as usize);
+        let row = polynomial::share_row(p, n as usize, secret, coefficients);
+        rows::put_shares(shares, row, n as usize);
+    }
+    number
+}
+
+// Recovers secret and coefficients from a row of n shares. The number is the paper's: 0, or 2, 3, 4, 5, 6, and then nothing is written.
+pub fn recover(field: u32, n: u32, t: u32, row: &[u32], coefficients: &mut [u32]) -> Recovered
+    ensures { λ r. ⌜ (r .number ≡ recoverNumber field n t (now (row .entry)) (now (coefficients .entry))) × (r .value ≡ recoverValue field n t (now (row .entry)) (now (coefficients .entry))) × (now (coefficients .exit) ≡ recoverLeft field n t (now (row .entry)) (now (coefficients .entry))) ⌝ }
+{
+    let number = recover_number(field, n, t, row, coefficients.len());
+    if number != 0 {
+        return Recovered { number, value: 0 };
+    }
+    let f = field as usize;
+    let cells = rows::gather(row);
+    let value = secret::secret_of(table::modulus(f), t as usize, cells);
+    polynomial::put_coefficients(f, t as usize, cells, value, coefficients);
+    Recovered { number: 0, value }
+}
+
+// The number that share answers, of a lent list of the given length.
+fn share_number(field: u32, n: u32, t: u32, secret: u32, coefficients: &[u32], lent: usize) -> u32
+    ensures { λ r. ⌜ ((out : List ℕ) → length out ≡ lent → r ≡ shareNumber field n t secret (now (coefficients .entry)) out) ⌝ }
+{
+    let number = fit_number(field, n, t, coefficients.len(), t, lent, n);
+    if number != 0 {
+        return number;
+    }
+    let p = table::modulus(field as usize);
+    if secret < p {
+        if rows::all_below(p, coefficients) {
+            0
+        } else {
+            5
+        }
+    } else {
+        5
+    }
+}
+
+// The number that recover answers, of a lent list of the given length.
+fn recover_number(field: u32, n: u32, t: u32, row: &[u32], lent: usize) -> u32
+    ensures { λ r. ⌜ ((out : List ℕ) → length out ≡ lent → r ≡ recoverNumber field n t (now (row .entry)) out) ⌝ }
+{
+    let number = fit_number(field, n, t, row.len(), n, lent, t);
+    if number != 0 {
+        return number;
+    }
+    let p = table::modulus(field as usize);
+    if rows::all_below(p, row) {
+        if secret::is_sharing(p, n as usize, t as usize, rows::gather(row)) {
+            0
+        } else {
+            6
+        }
+    } else {
+        5
+    }
+}
+
+// 2, 3, 4 or 0: the field, the parties, and the lengths of two lists, a and b, that should be i and j.
+fn fit_number(field: u32, n: u32, t: u32, a: usize, i: u32, b: usize, j: u32) -> u32
+    ensures { λ r. ⌜ r ≡ fitted field n t (eqb a i && eqb b j) 0 ⌝ }
+{
+    if 3 < field {
+        return 2;
+    }
+    if parties(n, t) {
+        if a == i as usize {
+            if b == j as usize { 0 } else { 4 }
+        } else {
+            4
+        }
+    } else {
+        3
+    }
+}
+
+// Whether n parties may share with threshold t.
+pub fn parties(n: u32, t: u32) -> bool
+    ensures { λ r. ⌜ r ≡ Fields.parties n t ⌝ }
+{
+    if n < 3 {
+        return false;
+    }
+    if 7 < n {
+        return false;
+    }
+    if t < 1 {
+        return false;
+    }
+    t <= (n - 1) / 2
+}

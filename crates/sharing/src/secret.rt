@@ -1,0 +1,85 @@
+// The secret of a row as a weighted sum, and the test that a row is a sharing.
+ghost use mathlib.Core.Path.{_≡_};
+ghost use Prim.Native.Nat.{suc, _+_, _%_, _^_, _≤_, _<_};
+ghost use lib.ListN.{getD};
+ghost use Rattle.algebra.specs.Lists.{from, allBelow};
+ghost use Rattle.algebra.specs.Rows as Rows;
+ghost use Rattle.model.specs.Fields as Fields;
+ghost use Rattle.model.specs.Sharing as Sharing;
+use crate::rows::Row;
+use field::arithmetic;
+
+// Four to a count e: the binomial coefficients e over 1 to e over 4.
+const BINOMIALS: [u32; 16] = [1, 0, 0, 0, 2, 1, 0, 0, 3, 3, 1, 0, 4, 6, 4, 1];
+
+// The Lagrange weight at 0 of party x among parties 1 to e, below p. It is e over x, less where x is even.
+fn weight(p: u32, e: usize, x: usize) -> u32
+    requires { ⌜ Fields.Modulus p × (1 ≤ x) × (x ≤ e) × (e ≤ 4) ⌝ }
+    ensures { λ r. ⌜ (r ≡ Sharing.weight p (from 1 e) x) × (r < p) ⌝ }
+{
+    let binomial = BINOMIALS[4 * (e - 1) + (x - 1)];
+    if x % 2 == 1 { binomial } else { p - binomial }
+}
+
+fn wide(x: u32) -> u64
+    ensures { λ r. ⌜ (r ≡ x) × (r < 2 ^ 32) ⌝ }
+{
+    x as u64
+}
+
+// The value at place i that the shares of parties i + 1 to i + e give: weight times share, summed, and reduced once.
+pub fn value_before(p: u32, e: usize, row: Row, i: usize) -> u32
+    requires { ⌜ Fields.Modulus p × (e ≤ 4) × (i + e ≤ 7) ⌝ }
+    ensures { λ r. ⌜ (r ≡ Sharing.weighted p (from 1 e) (λ x. Sharing.at 0 (row .shares) (i + x)) % p) × (r < p) ⌝ }
+{
+    let mut sum: u64 = 0;
+    let mut x: usize = 0;
+    while x < e {
+        let share = arithmetic::reduce(p, row.shares[i + x]);
+        sum += wide(weight(p, e, x + 1)) * wide(share);
+        x += 1;
+    }
+    (sum % wide(p)) as u32
+}
+
+// The secret of a row, from the shares of parties 1 to t + 1.
+pub fn secret_of(p: u32, t: usize, row: Row) -> u32
+    requires { ⌜ Fields.Modulus p × (t ≤ 3) ⌝ }
+    ensures { λ r. ⌜ (r ≡ Sharing.secret p t (row .shares)) × (r < p) ⌝ }
+{
+    value_before(p, t + 1, row, 0)
+}
+
+// Whether the first n cells of a row are a sharing: all are below p, and each is what the t + 1 after it give.
+pub fn is_sharing(p: u32, n: usize, t: usize, row: Row) -> bool
+    requires { ⌜ Fields.Modulus p × Fields.Parties n t ⌝ }
+    ensures { λ r. ⌜ r ≡ Sharing.isSharing p n t (Rows.row n (λ j. getD (row .shares) j 0)) ⌝ }
+{
+    if shares_below(p, n, row) {
+        let e = t + 1;
+        let mut i = 1;
+        while i + e <= n {
+            if value_before(p, e, row, i) != row.shares[i - 1] {
+                return false;
+            }
+            i += 1;
+        }
+        true
+    } else {
+        false
+    }
+}
+
+fn shares_below(p: u32, n: usize, row: Row) -> bool
+    requires { ⌜ n ≤ 7 ⌝ }
+    ensures { λ r. ⌜ r ≡ allBelow p (Rows.tab n (λ j. getD (row .shares) j 0)) ⌝ }
+{
+    let mut j = 0;
+    while j < n {
+        if p <= row.shares[j] {
+            return false;
+        }
+        j += 1;
+    }
+    true
+}

@@ -1,0 +1,166 @@
+//! The whole set of cases: chosen edges of each entry, then generated cases.
+
+mod decode_edges;
+mod encode_edges;
+mod generated;
+pub mod generator;
+mod recover_edges;
+mod share_edges;
+
+use crate::case::{Case, RecoverCase, ShareCase, LONGEST};
+use crate::field::Field;
+
+/// Every permitted pair of a number of parties and a threshold.
+pub const PERMITTED: [(u32, u32); 9] = [
+    (3, 1),
+    (4, 1),
+    (5, 1),
+    (5, 2),
+    (6, 1),
+    (6, 2),
+    (7, 1),
+    (7, 2),
+    (7, 3),
+];
+
+/// Field numbers that are not in the table.
+const UNKNOWN_FIELDS: [u32; 2] = [4, u32::MAX];
+
+/// Coefficients below every modulus, the first power's first.
+const SMALL: [u32; 9] = [2, 7, 1, 11, 3, 9, 4, 12, 6];
+
+pub fn all() -> Vec<Case> {
+    let mut cases = share_edges::all();
+    cases.extend(recover_edges::all());
+    cases.extend(encode_edges::all());
+    cases.extend(decode_edges::all());
+    cases.extend(generated::all());
+    cases
+}
+
+/// Every permitted pair, the first threshold that is too large for each permitted number of
+/// parties, and pairs far outside the ranges. Doubling 2^31 or 2^31 + 1 in 32 bits gives
+/// 0 or 2, which a program that loses the carry accepts.
+fn edge_parties() -> Vec<(u32, u32)> {
+    let too_large = (3..=7).map(|n| (n, (n - 1) / 2 + 1));
+    let wrong_threshold = [3, 7]
+        .into_iter()
+        .flat_map(|n| [0, 1 << 31, (1 << 31) + 1, u32::MAX].map(|t| (n, t)));
+    let wrong_parties = [2, 8, u32::MAX]
+        .into_iter()
+        .flat_map(|n| [0, 1, 3, 1 << 31, u32::MAX].map(|t| (n, t)));
+    PERMITTED
+        .into_iter()
+        .chain(too_large)
+        .chain(wrong_threshold)
+        .chain(wrong_parties)
+        .collect()
+}
+
+fn share_case(
+    field: u32,
+    (parties, threshold): (u32, u32),
+    secret: u32,
+    coefficients: &[u32],
+    lent_length: u32,
+) -> Case {
+    Case::Share(ShareCase {
+        field,
+        parties,
+        threshold,
+        secret,
+        coefficients: coefficients.to_vec(),
+        lent: lent_list(lent_length),
+    })
+}
+
+fn recover_case(
+    field: u32,
+    (parties, threshold): (u32, u32),
+    row: &[u32],
+    lent_length: u32,
+) -> Case {
+    Case::Recover(RecoverCase {
+        field,
+        parties,
+        threshold,
+        row: row.to_vec(),
+        lent: lent_list(lent_length),
+    })
+}
+
+/// Distinct numbers above every modulus: no entry can write one of them,
+/// so every write is seen.
+fn lent_list(length: u32) -> Vec<u32> {
+    (4_000_000_001..).take(length as usize).collect()
+}
+
+/// The length, or the longest that a case can hold.
+fn held(length: u32) -> u32 {
+    length.min(LONGEST as u32)
+}
+
+/// The values of a polynomial at 1 to `length`, the constant term being `secret`.
+fn row_of(field: &Field, secret: u32, coefficients: &[u32], length: u32) -> Vec<u32> {
+    let mut polynomial = vec![u64::from(secret)];
+    polynomial.extend(coefficients.iter().map(|&c| u64::from(c)));
+    (1..=u64::from(length))
+        .map(|party| field.evaluate(&polynomial, party) as u32)
+        .collect()
+}
+
+#[cfg(test)]
+mod tests {
+    use super::*;
+    use crate::case::read_all;
+    use crate::line;
+
+    fn lines() -> Vec<String> {
+        all().iter().map(line::answer).collect()
+    }
+
+    #[test]
+    fn number_of_cases_is_within_bounds() {
+        let count = all().len();
+        assert!((400..=800).contains(&count), "{count}");
+    }
+
+    #[test]
+    fn cases_are_always_the_same() {
+        assert_eq!(all(), all());
+    }
+
+    #[test]
+    fn cases_are_read_back_from_their_bytes() {
+        let bytes: Vec<u8> = all().iter().flat_map(Case::to_bytes).collect();
+        assert_eq!(read_all(&bytes), Ok(all()));
+    }
+
+    #[test]
+    fn every_entry_gives_each_of_its_numbers() {
+        let lines = lines();
+        let entries: [(&str, &[u32]); 4] = [
+            ("share", &[0, 2, 3, 4, 5]),
+            ("recover", &[0, 2, 3, 4, 5, 6]),
+            ("encode", &[0, 2, 11]),
+            ("decode", &[0, 2, 5]),
+        ];
+        for (entry, numbers) in entries {
+            for number in numbers {
+                let wanted = format!(" : number {number} ");
+                let found = lines
+                    .iter()
+                    .filter(|line| line.starts_with(entry) && line.contains(&wanted));
+                assert!(found.count() >= 2, "{entry} {number}");
+            }
+        }
+    }
+
+    #[test]
+    fn lines_are_single_spaced() {
+        for line in lines() {
+            assert!(!line.contains("  ") && !line.contains(" \n"), "{line}");
+            assert_eq!(line.find('\n'), Some(line.len() - 1));
+        }
+    }
+}
