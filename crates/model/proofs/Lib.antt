@@ -7,3 +7,4 @@ pub mod Extrapolation
 pub mod Coefficients
 pub mod Entries
 pub mod Shamir
+pub mod Examples
