@@ -1,4 +1,4 @@
--- `decode` meets its contract: each end's answer is a law of its own.
+-- `decode` meets its contract: each return is a law of its own.
 -- Assumes nothing.
 use native.Mathlib.Omega.{arith}
 use borrow.Author.Needs.{needs, sfits-of}

@@ -1,4 +1,4 @@
--- `encode` meets its contract: each end's answer is a law of its own, and a number in range has a magnitude below p.
+-- `encode` meets its contract: each return is a law of its own, and a number in range has a magnitude below p.
 -- Assumes nothing.
 use native.Mathlib.Omega.{arith}
 use borrow.Author.Needs.{needs}
