@@ -8,3 +8,4 @@ pub mod Coefficients
 pub mod Entries
 pub mod Shamir
 pub mod Examples
+pub mod Printed

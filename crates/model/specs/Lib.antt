@@ -4,3 +4,9 @@ pub mod Sharing
 pub mod Entries
 pub mod Bytes
 pub mod Shamir
+pub mod Steps
+pub mod Script
+pub mod Costs
+pub mod Sheet
+pub mod Run
+pub mod Printed

@@ -1,0 +1,105 @@
+-- The paper, the table of commands: what the bytes of a script say, and the refusals 9 to 11 of a whole script with their places.
+-- Assumes nothing.
+use mathlib.Core.Bool.{Bool, true, false, _&&_, cond}
+use mathlib.Core.List.{List, [], _∷_}
+use Prim.Native.Nat.{ℕ, zero, suc, _+_, _-_, _^_}
+use lib.Dec.{ltb, leb, eqb}
+use lib.ListN.{length, getD}
+use Rattle.model.specs.Bytes.{number}
+
+pub data Command : Type 0 where
+  END : Command
+  LOAD : ℕ → Command
+  CONST : ℕ → ℕ → Command
+  ADD SUB : ℕ → ℕ → ℕ → Command
+  SCALE : ℕ → ℕ → ℕ → Command
+  MUL : ℕ → ℕ → ℕ → Command
+  MOD TRUNC : ℕ → ℕ → ℕ → ℕ → Command
+  LTZ : ℕ → ℕ → ℕ → Command
+  OVER : ℕ → ℕ → ℕ → ℕ → Command
+  BLOCKS : ℕ → ℕ → ℕ → ℕ → Command
+  REVEAL : ℕ → Command
+  BITLT : ℕ → ℕ → ℕ → ℕ → Command
+
+-- "d, a, b are one-byte registers 0 to 63; k, m, w one byte; v four bytes": by the byte at place i of a script, the command whose operands
+-- follow it, and how many bytes it takes
+unfoldable pub commandAt : List ℕ → ℕ → Command
+commandAt s i =
+    let o : ℕ → ℕ = λ j. getD s (i + j) 0 in
+    let v : ℕ → ℕ = λ j. number 4 s (i + j) in
+    getD
+    (END ∷ LOAD (o 1) ∷ CONST (o 1) (v 2) ∷ ADD (o 1) (o 2) (o 3) ∷ SUB (o 1) (o 2) (o 3) ∷ SCALE (o 1) (o 2) (v 3) ∷ MUL (o 1) (o 2) (o 3)
+    ∷ MOD (o 1) (o 2) (o 3) (o 4) ∷ TRUNC (o 1) (o 2) (o 3) (o 4) ∷ LTZ (o 1) (o 2) (o 3) ∷ OVER (o 1) (o 2) (o 3) (v 4)
+    ∷ BLOCKS (o 1) (o 2) (o 3) (o 4) ∷ REVEAL (o 1) ∷ BITLT (o 1) (o 2) (o 3) (v 4) ∷ [])
+    (getD s i 0) END
+
+abbrev pub sizes : List ℕ
+sizes = 1 ∷ 2 ∷ 6 ∷ 4 ∷ 4 ∷ 7 ∷ 4 ∷ 5 ∷ 5 ∷ 4 ∷ 8 ∷ 5 ∷ 2 ∷ 8 ∷ []
+
+unfoldable pub sizeAt : List ℕ → ℕ → ℕ
+sizeAt s i = getD sizes (getD s i 0) 1
+
+-- "Ranges: k from 2 to the field's largest; m from 1 to k − 1; v below p, except in BITLT, where w is 1 to 31, b + w at most 64 and v
+-- below 2^w". K is the field's largest k.
+abbrev pub register : ℕ → Bool
+register r = ltb r 64
+
+abbrev pub kIn : ℕ → ℕ → Bool
+kIn K k = leb 2 k && leb k K
+
+abbrev pub mIn : ℕ → ℕ → Bool
+mIn k m = leb 1 m && ltb m k
+
+unfoldable pub inRanges : ℕ → ℕ → Command → Bool
+inRanges p K END = true
+inRanges p K (LOAD d) = register d
+inRanges p K (CONST d v) = register d && ltb v p
+inRanges p K (ADD d a b) = register d && register a && register b
+inRanges p K (SUB d a b) = register d && register a && register b
+inRanges p K (SCALE d a v) = register d && register a && ltb v p
+inRanges p K (MUL d a b) = register d && register a && register b
+inRanges p K (MOD d a k m) = register d && register a && kIn K k && mIn k m
+inRanges p K (TRUNC d a k m) = register d && register a && kIn K k && mIn k m
+inRanges p K (LTZ d a k) = register d && register a && kIn K k
+inRanges p K (OVER d a k v) = register d && register a && kIn K k && ltb v p
+inRanges p K (BLOCKS d a k m) = register d && register a && kIn K k && mIn k m
+inRanges p K (REVEAL a) = register a
+inRanges p K (BITLT d b w v) = register d && register b && leb 1 w && leb w 31 && leb (b + w) 64 && ltb v (2 ^ w)
+
+-- What stands at place i: 0, or "9: a command byte over 0D; 10: operands cut off, no END; 11: an operand out of range". A script that ends
+-- between two commands has no END.
+unfoldable pub numberAt : ℕ → ℕ → List ℕ → ℕ → ℕ
+numberAt p K s i =
+    cond (leb (length s) i) 10
+    (cond (ltb 13 (getD s i 0)) 9
+    (cond (ltb (length s) (i + sizeAt s i)) 10
+    (cond (inRanges p K (commandAt s i)) 0 11)))
+
+-- a command of a script, and its offset
+pub record Line : Type 0 where
+  pub place : ℕ
+  pub command : Command
+
+-- A script, command by command from its start: its lines without END and END's offset, or the first refusal and its place.
+pub data Script : Type 0 where
+  accepted : List Line → ℕ → Script
+  refused : ℕ → ℕ → Script
+
+abbrev pub withLine : Line → Script → Script
+withLine x (accepted xs end) = accepted (x ∷ xs) end
+withLine x (refused number place) = refused number place
+
+-- "the command's offset in the script, the script length if END is missing, or the offset just after END"
+abbrev pub scriptStep : ℕ → List ℕ → ℕ → Script → Script
+scriptStep zero s i rest =
+    cond (eqb (getD s i 0) 0) (cond (eqb (i + 1) (length s)) (accepted [] i) (refused 10 (i + 1)))
+    (withLine (record { place = i; command = commandAt s i }) rest)
+scriptStep (suc number) s i rest = refused (suc number) i
+
+-- from place i on, at most so many commands; each takes a byte at least
+unfoldable pub scriptFrom : ℕ → ℕ → ℕ → List ℕ → ℕ → Script
+scriptFrom zero p K s i = refused 10 i
+scriptFrom (suc most) p K s i = scriptStep (numberAt p K s i) s i (scriptFrom most p K s (i + sizeAt s i))
+
+unfoldable pub scriptOf : ℕ → ℕ → List ℕ → Script
+scriptOf p K s = scriptFrom (suc (length s)) p K s 0

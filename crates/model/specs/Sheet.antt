@@ -1,0 +1,161 @@
+-- The paper, "The sheet" and "Refused because of the input": header, rows, the refusals 1 to 8, and a sheet's bytes made of its parts.
+-- Assumes nothing.
+use mathlib.Core.Bool.{Bool, true, _&&_}
+use mathlib.Core.List.{List, [], _∷_, _++_}
+use Prim.Native.Nat.{ℕ, zero, suc, _+_, _*_, _/_, _%_}
+use lib.Dec.{ltb, leb, eqb}
+use lib.ListN.{length, getD, take, drop}
+use Rattle.algebra.specs.Ring.{mul}
+use Rattle.algebra.specs.Lists.{allBelow}
+use Rattle.model.specs.Fields.{modulus, bits, parties}
+use Rattle.model.specs.Sharing.{secret, isSharing}
+use Rattle.model.specs.Entries.{tried}
+use Rattle.model.specs.Bytes.{number, rowAt}
+use Rattle.model.specs.Steps.{Setting, Row, Triple, Deal}
+
+-- "One byte each: field, n, t. Two bytes each: input rows (at most 64), masks (at most 16), triples (at most 512), script length (at most
+-- 1,024). That header is 11 bytes."
+pub record Header : Type 0 where
+  pub field : ℕ
+  pub n : ℕ
+  pub t : ℕ
+  pub inputs : ℕ
+  pub masks : ℕ
+  pub triples : ℕ
+  pub script : ℕ
+
+unfoldable pub headerOf : List ℕ → Header
+headerOf s =
+    record {
+      field = getD s 0 0;
+      n = getD s 1 0;
+      t = getD s 2 0;
+      inputs = number 2 s 3;
+      masks = number 2 s 5;
+      triples = number 2 s 7;
+      script = number 2 s 9;
+    }
+
+abbrev pub settingOf : Header → Setting
+settingOf h = record { p = modulus (h .field); l = bits (h .field); n = h .n; t = h .t }
+
+unfoldable pub limits : Header → Bool
+limits h = leb (h .inputs) 64 && leb (h .masks) 16 && leb (h .triples) 512 && leb (h .script) 1024
+
+-- "Then the script; the input rows; the masks, each ℓ rows, bit 0 first; the triples, each rows a, b, c." The places where they start, and
+-- the length that the header implies:
+abbrev pub inputsAt : Header → ℕ
+inputsAt h = 11 + h .script
+
+abbrev pub masksAt : Header → ℕ
+masksAt h = inputsAt h + 4 * h .n * h .inputs
+
+abbrev pub triplesAt : Header → ℕ
+triplesAt h = masksAt h + 4 * h .n * bits (h .field) * h .masks
+
+unfoldable pub impliedLength : Header → ℕ
+impliedLength h = triplesAt h + 4 * h .n * 3 * h .triples
+
+unfoldable pub scriptIn : Header → List ℕ → List ℕ
+scriptIn h s = take (h .script) (drop 11 s)
+
+-- so many rows, masks and triples, from place i on
+unfoldable pub rowsAt : List ℕ → ℕ → ℕ → ℕ → List Row
+rowsAt s n i zero = []
+rowsAt s n i (suc c) = rowAt s n i ∷ rowsAt s n (i + 4 * n) c
+
+unfoldable pub masksFrom : List ℕ → ℕ → ℕ → ℕ → ℕ → List (List Row)
+masksFrom s n l i zero = []
+masksFrom s n l i (suc c) = rowsAt s n i l ∷ masksFrom s n l (i + 4 * n * l) c
+
+unfoldable pub triplesFrom : List ℕ → ℕ → ℕ → ℕ → List Triple
+triplesFrom s n i zero = []
+triplesFrom s n i (suc c) =
+    record { a = rowAt s n i; b = rowAt s n (i + 4 * n); c = rowAt s n (i + 4 * n * 2) } ∷ triplesFrom s n (i + 4 * n * 3) c
+
+-- "Its input is its input rows, its deal its mask and triple rows."
+unfoldable pub inputIn : Header → List ℕ → List Row
+inputIn h s = rowsAt s (h .n) (inputsAt h) (h .inputs)
+
+unfoldable pub dealIn : Header → List ℕ → Deal
+dealIn h s =
+    record {
+      masks = masksFrom s (h .n) (bits (h .field)) (masksAt h) (h .masks);
+      triples = triplesFrom s (h .n) (triplesAt h) (h .triples);
+    }
+
+-- every element passes
+unfoldable pub all : {A : Type 0} → (A → Bool) → List A → Bool
+all f [] = true
+all f (x ∷ xs) = f x && all f xs
+
+-- the rows of masks and of triples, in the sheet's order
+unfoldable pub maskRows : List (List Row) → List Row
+maskRows [] = []
+maskRows (m ∷ ms) = m ++ maskRows ms
+
+unfoldable pub tripleRows : List Triple → List Row
+tripleRows [] = []
+tripleRows (x ∷ xs) = x .a ∷ x .b ∷ x .c ∷ tripleRows xs
+
+abbrev pub dealRows : Deal → List Row
+dealRows d = maskRows (d .masks) ++ tripleRows (d .triples)
+
+-- the number that bits spell, bit 0 first
+unfoldable pub spell : List ℕ → ℕ
+spell [] = 0
+spell (b ∷ bs) = b + 2 * spell bs
+
+unfoldable pub secrets : Setting → List Row → List ℕ
+secrets S [] = []
+secrets S (x ∷ xs) = secret (S .p) (S .t) x ∷ secrets S xs
+
+-- "A mask is well formed when its ℓ secrets are bits and the number they spell is below p; a triple when c's secret is a times b modulo p."
+unfoldable pub goodMask : Setting → List Row → Bool
+goodMask S m = allBelow 2 (secrets S m) && ltb (spell (secrets S m)) (S .p)
+
+unfoldable pub goodTriple : Setting → Triple → Bool
+goodTriple S x =
+    eqb (secret (S .p) (S .t) (x .c)) (mul (S .p) (secret (S .p) (S .t) (x .a)) (secret (S .p) (S .t) (x .b)))
+
+abbrev pub sharesBelow : Setting → Row → Bool
+sharesBelow S x = allBelow (S .p) (take (S .n) x)
+
+abbrev pub aSharing : Setting → Row → Bool
+aSharing S x = isSharing (S .p) (S .n) (S .t) x
+
+-- "Tried in this order, each over the whole sheet before the next": 1 to 8, or 0
+unfoldable pub sheetNumber : List ℕ → ℕ
+sheetNumber s =
+    let h = headerOf s in
+    let S = settingOf h in
+    let d = dealIn h s in
+    let rows = inputIn h s ++ dealRows d in
+    tried (leb 11 (length s)) 1
+    (tried (ltb (h .field) 4) 2
+    (tried (parties (h .n) (h .t)) 3
+    (tried (limits h && eqb (length s) (impliedLength h)) 4
+    (tried (all (sharesBelow S) rows) 5
+    (tried (all (aSharing S) rows) 6
+    (tried (all (goodMask S) (d .masks)) 7
+    (tried (all (goodTriple S) (d .triples)) 8 0)))))))
+
+-- The other way: v in w bytes, a row, and "the sheet made of header, script, input and deal".
+unfoldable pub bytesOf : ℕ → ℕ → List ℕ
+bytesOf zero v = []
+bytesOf (suc w) v = v % 256 ∷ bytesOf w (v / 256)
+
+unfoldable pub shareBytes : List ℕ → List ℕ
+shareBytes [] = []
+shareBytes (x ∷ xs) = bytesOf 4 x ++ shareBytes xs
+
+unfoldable pub rowBytes : ℕ → List Row → List ℕ
+rowBytes n [] = []
+rowBytes n (x ∷ xs) = shareBytes (take n x) ++ rowBytes n xs
+
+unfoldable pub headerBytes : Header → List ℕ
+headerBytes h =
+    h .field ∷ h .n ∷ h .t ∷ (bytesOf 2 (h .inputs) ++ (bytesOf 2 (h .masks) ++ (bytesOf 2 (h .triples) ++ bytesOf 2 (h .script))))
+
+unfoldable pub sheetOf : Header → List ℕ → List Row → Deal → List ℕ
+sheetOf h script input d = headerBytes h ++ (script ++ (rowBytes (h .n) input ++ rowBytes (h .n) (dealRows d)))
