@@ -9,3 +9,4 @@ pub mod Entries
 pub mod Shamir
 pub mod Examples
 pub mod Printed
+pub mod Unmasking

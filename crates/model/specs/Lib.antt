@@ -10,3 +10,5 @@ pub mod Costs
 pub mod Sheet
 pub mod Run
 pub mod Printed
+pub mod Plain
+pub mod Making
