@@ -19,6 +19,9 @@ pub and-both : (a b : Bool) → T a → T b → T (a && b)
 and-both true b s t = t
 and-both false b s t = s
 
+pub true-false : true ≡ false → ⊥
+true-false q = let z : _≡_ {A = ℕ} 0 1 = cc in omega arith
+
 pub is-true : (b : Bool) → T b → b ≡ true
 is-true true t = refl
 is-true false t = absurd t

@@ -15,6 +15,11 @@ unfoldable pub allBelow : ℕ → List ℕ → Bool
 allBelow p [] = true
 allBelow p (x ∷ xs) = ltb x p && allBelow p xs
 
+-- every element has the property
+pub data All {A : Type 0} (P : A → Type 0) : List A → Type 0 where
+  none : All P []
+  one : {x : A} {xs : List A} → P x → All P xs → All P (x ∷ xs)
+
 -- k, k + 1, .., k + m - 1
 unfoldable pub from : ℕ → ℕ → List ℕ
 from k zero = []

@@ -8,12 +8,12 @@ use native.Mathlib.Decide.{decLt}
 use native.Mathlib.Omega.{arith}
 use borrow.Author.Tests.{ltb-true, lt-ltb, le-leb, lt-leb}
 use lib.Dec.{T, ltb, leb, leb·suc-suc, lt→ltb}
-use lib.IntN.{ℤ, pos, negsuc, negℤ, subℕ}
+use lib.IntN.{ℤ, pos, negsuc, negℤ, subℕ, _+ℤ_, _*ℤ_}
 use lib.Pow.{pow-pos, pow-mono}
 use lib.Signed.{mag, nonNeg, leZ, ltZ, shrZ}
 use Rattle.algebra.proofs.Tests.{is-true}
 use Rattle.model.specs.Fields.{modulus, largestK, Field}
-use Rattle.model.specs.Coding.{inRange, code, readBack, Modulo, Codes}
+use Rattle.model.specs.Coding.{inRange, code, readBack, Codes}
 use Rattle.model.proofs.Fields.{fields}
 
 -- the k-bit range is a bound of the magnitude
@@ -48,25 +48,25 @@ pub reads-down : (p v : ℕ) → (p - 1) / 2 < v → v < p → readBack p v ≡ 
 unfolding readBack
 reads-down (suc p) v h l = rw (lt-leb v ((suc p - 1) / 2) h) (below-zero v (suc p) _ (omega arith))
 
-code-below : (p : ℕ) (a : ℤ) → 0 < p → code p a < p
+pub code-below : (p : ℕ) (a : ℤ) → 0 < p → code p a < p
 unfolding code
 code-below p (pos n) h = mod-lt n h
 code-below p (negsuc n) h = omega arith
 
 -- a is its code plus p times the floor of a / p
-code-modulo : (p : ℕ) (a : ℤ) → 0 < p → Modulo p a (code p a)
+pub code-floor : (p : ℕ) (a : ℤ) → 0 < p → a ≡ pos (code p a) +ℤ shrZ a p *ℤ pos p
 unfolding code
-code-modulo p (pos n) h = record { multiple = shrZ (pos n) p; is = ap pos (omega (arith, div-add-mod' n p)) }
-code-modulo p (negsuc n) h =
+code-floor p (pos n) h = ap pos (omega (arith, div-add-mod' n p))
+code-floor p (negsuc n) h =
     let e : suc (n / p) * p ≡ suc (n + (p - suc (n % p))) = omega (arith, div-add-mod' n p, mod-lt n h) in
-    record { multiple = shrZ (negsuc n) p; is = rw e (sym (below-zero (p - suc (n % p)) (suc (n + (p - suc (n % p)))) n (omega arith))) }
+    rw e (sym (below-zero (p - suc (n % p)) (suc (n + (p - suc (n % p)))) n (omega arith)))
 
-read-code : (p : ℕ) (a : ℤ) → p % 2 ≡ 1 → mag a + mag a + 1 < p → readBack p (code p a) ≡ a
+pub read-code : (p : ℕ) (a : ℤ) → p % 2 ≡ 1 → mag a + mag a + 1 < p → readBack p (code p a) ≡ a
 read-code p (pos n) o h = rw (code-small p (pos n) (omega arith)) (reads-up p n (omega arith))
 read-code p (negsuc n) o h =
     rw (code-small p (negsuc n) (omega arith)) (reads-down p (p - 1 - n) (omega arith) (omega arith) ∙ ap negsuc (omega arith))
 
-code-read : (p v : ℕ) → v < p → code p (readBack p v) ≡ v
+pub code-read : (p v : ℕ) → v < p → code p (readBack p v) ≡ v
 code-read p v h = go (decLt ((p - 1) / 2) v)
   where
     go : Dec ((p - 1) / 2 < v) → code p (readBack p v) ≡ v
@@ -90,7 +90,7 @@ range-small {p} {l} {K} F k a h m t =
 field-codes : {p l K : ℕ} → Field p l K → Codes p K
 field-codes {p} {l} {K} F = record {
   below = λ a. code-below p a (omega arith);
-  modulo = λ a. code-modulo p a (omega arith);
+  modulo = λ a. record { multiple = shrZ a p; is = code-floor p a (omega arith) };
   lowest = λ k. in-range-of k _ (lowest-mag (2 ^ (k - 1)) (pow-pos (k - 1)));
   highest = λ k. in-range-of k _ (omega (arith, pow-pos (k - 1)));
   reading-undoes = λ k a h m t. read-code p a (F .modulus-is .odd) (range-small F k a h m (is-true (inRange k a) t));

@@ -25,7 +25,7 @@ use Rattle.model.proofs.Polynomials.{positive, eval-lt}
 use Rattle.model.proofs.Sharings.{recover-sharing, secret-sharing, sharing-of, recover-share, secret-share, test-exact}
 
 -- a test that was passed, and what came after it
-passed : (b : Bool) (number next : ℕ) → tried b (suc number) next ≡ 0 → T b × (next ≡ 0)
+pub passed : (b : Bool) (number next : ℕ) → tried b (suc number) next ≡ 0 → T b × (next ≡ 0)
 passed true number next e = (tt, e)
 passed false number next e = absurd (omega arith)
 

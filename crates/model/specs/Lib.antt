@@ -12,3 +12,4 @@ pub mod Run
 pub mod Printed
 pub mod Plain
 pub mod Making
+pub mod Exactness

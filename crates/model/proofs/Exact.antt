@@ -1,0 +1,80 @@
+-- `exact`: what the plain interpreter's formulas are in ℤ, in every field of the table.
+-- Assumes nothing.
+use mathlib.Core.Path.{_≡_, ap, _∙_}
+use Prim.Native.Nat.{ℕ, suc, _+_, _-_, _*_, _/_, _^_, _≤_, _<_}
+use native.Mathlib.Nat.{mod-eq-of-lt, div-le-self, pow-suc}
+use native.Mathlib.Omega.{arith}
+use lib.Dec.{T, ltb→lt}
+use lib.IntN.{ℤ, pos, _-ℤ_, _*ℤ_, +ℤ-comm}
+use lib.Pow.{pow-pos, pow-mono, pow-add}
+use lib.Signed.{mag, ltZ, shrZ, mag-shr}
+use Rattle.algebra.proofs.Lists.{all-below}
+use Rattle.algebra.proofs.Ring.{sub-lt}
+use Rattle.model.specs.Fields.{modulus, largestK, powerOf2, inversePowerOf2, Field}
+use Rattle.model.specs.Coding.{inRange, code, readBack}
+use Rattle.model.specs.Plain.{rem, quot, negative, exceeds, charged, Division, one, Exact}
+use Rattle.model.proofs.Fields.{fields, power-inverse}
+use Rattle.model.proofs.Coding.{in-range, code-below, code-floor, read-code, code-read}
+use Rattle.model.proofs.Comparing.{less-is}
+use Rattle.model.proofs.Signed.{sign-sub, code-sub, floor-is, remainder-is, sign-is}
+
+in-magnitude : (k : ℕ) (a : ℤ) → T (inRange k a) → mag a < 2 ^ (k - 1)
+in-magnitude k a t = ltb→lt (mag a) (2 ^ (k - 1)) (rw in-range at t)
+
+module _ {p l K : ℕ} (F : Field p l K) where
+  twice-fits : (k : ℕ) → 1 ≤ k → k ≤ K → 2 ^ (k - 1) + 2 ^ (k - 1) < p
+  twice-fits k h m = let fits : 2 ^ suc (k - 1) ≤ 2 ^ K = pow-mono (omega arith) in omega (arith, pow-suc 2 (k - 1))
+
+  module _ (k m : ℕ) (a : ℤ) (hk : k ≤ K) (hm : m < k) (r : mag a < 2 ^ (k - 1)) where
+    rem-code : rem p k m (code p a) ≡ code (2 ^ m) a
+    unfolding rem
+    rem-code =
+        let e : 2 ^ (k - 1) ≡ 2 ^ (k - 1 - m) * 2 ^ m = ap (λ (x : ℕ). 2 ^ x) (omega arith) ∙ pow-add 2 (k - 1 - m) m in
+        rw e (remainder-is p (2 ^ m) (2 ^ (k - 1 - m)) a (pow-pos m) (omega arith) (omega (arith, twice-fits k (omega arith) hk)))
+
+    quot-code : quot p k m (code p a) ≡ code p (shrZ a (2 ^ m))
+    unfolding quot powerOf2
+    quot-code = rw rem-code (floor-is (omega arith) (2 ^ m) (inversePowerOf2 p m) a (pow-pos m) (power-inverse (F .modulus-is) m))
+
+    division-code : Division a (2 ^ m) (readBack p (quot p k m (code p a))) (rem p k m (code p a))
+    division-code =
+        let s : mag (shrZ a (2 ^ m)) ≤ mag a = mag-shr a (2 ^ m) in
+        let q : readBack p (code p (shrZ a (2 ^ m))) ≡ shrZ a (2 ^ m) =
+        read-code p (shrZ a (2 ^ m)) (F .modulus-is .odd) (omega (arith, twice-fits k (omega arith) hk)) in
+        rw (rem-code, quot-code, q)
+        (record {
+          is = code-floor (2 ^ m) a (pow-pos m) ∙ +ℤ-comm (pos (code (2 ^ m) a)) (shrZ a (2 ^ m) *ℤ pos (2 ^ m));
+          small = code-below (2 ^ m) a (pow-pos m);
+        })
+
+  negative-code : (k : ℕ) (a : ℤ) → 2 ≤ k → k ≤ K → T (inRange k a) → negative p k (code p a) ≡ one (ltZ a (pos 0))
+  unfolding negative
+  negative-code k a h hk t =
+      let r = in-magnitude k a t in
+      rw (quot-code k (k - 1) a hk (omega arith) r) (sign-is p (2 ^ (k - 1)) a (omega arith) r)
+
+  negative-read : (k x : ℕ) → 2 ≤ k → k ≤ K → x < p → T (inRange k (readBack p x)) → negative p k x ≡ one (ltZ (readBack p x) (pos 0))
+  negative-read k x h hk l t = rw (code-read p x l) at (negative-code k (readBack p x) h hk t)
+
+  finished-blocks : (k m x : ℕ) → k ≤ K → m < k → x < 2 ^ (k - 1) → charged p k m x ≡ x / 2 ^ m
+  unfolding charged code
+  finished-blocks k m x hk hm r =
+      let f = twice-fits k (omega arith) hk in
+      rw (mod-eq-of-lt {n = x} {m = p} (omega arith), mod-eq-of-lt {n = x / 2 ^ m} {m = p} (omega (arith, div-le-self x (2 ^ m))))
+      at (quot-code k m (pos x) hk hm r)
+
+  field-exact : Exact p K
+  unfolding exceeds
+  field-exact =
+      let z : 0 < p = omega arith in
+      record {
+        division = λ k m x _ hk _ hm l t. rw (code-read p x l) at (division-code k m (readBack p x) hk hm (in-magnitude k (readBack p x) t));
+        sign = negative-read;
+        over-read = λ k v a h hk t. negative-read k _ h hk (sub-lt v a z) t;
+        over = λ k v a h hk t. rw (← (code-sub z v a)) (negative-code k (v -ℤ a) h hk t ∙ ap one (sign-sub v a));
+        finished = λ k m x _ hk _ hm l. finished-blocks k m x hk hm l;
+        compares = λ v bs n t l. less-is p v bs (omega arith) (all-below 2 bs .0 t) n l;
+      }
+
+pub exact : (f : ℕ) → f < 4 → Exact (modulus f) (largestK f)
+exact f h = field-exact (fields f h)

@@ -1,0 +1,156 @@
+-- Exactness and counts of whole runs: by the states that a run passes through.
+-- Assumes nothing.
+use mathlib.Core.Path.{_≡_, refl, sym, ap, subst, _∙_}
+use mathlib.Core.Bool.{Bool, true, false}
+use mathlib.Core.List.{List, [], _∷_, _++_, append-assoc, append-nil, List·Memᴰ as In, List·Memᴰ·head as here}
+use Prim.Native.Nat.{ℕ, zero, suc, _+_, _*_, _≤_, _<_}
+use native.Mathlib.Omega.{arith}
+use lib.Dec.{T}
+use lib.ListN.{length, getD, set, take, drop, replicate, length-append}
+use lib.Seq.{getD-set-other, length-take-le}
+use Rattle.algebra.specs.Lists.{All, none, one}
+use Rattle.model.specs.Fields.{largestK}
+use Rattle.model.specs.Steps.{Setting, Row, Deal}
+use Rattle.model.specs.Script.{Command, END, LOAD, CONST, ADD, SUB, SCALE, MUL, MOD, TRUNC, LTZ, OVER, BLOCKS, REVEAL, BITLT, Line, accepted}
+use Rattle.model.specs.Costs.{Cost, cost}
+use Rattle.model.specs.Sheet.{headerOf, settingOf, scriptIn, inputIn, dealIn, secrets}
+use Rattle.model.specs.Run.{Supply, State, Stop, noRow, check, pay, put, perform, finish, nothingSpent, start, orElse, runLines, written, supplyOf, runScript, sheetScript, stopOf}
+use Rattle.model.specs.Plain.{plainly}
+use Rattle.model.specs.Exactness.{Accepted, Passes, begins, goes, Right, sumOf, Counted, Stops, at-end, at-line, Stopped, Exactly, Exactness}
+use Rattle.model.proofs.Taking.{Seven}
+use Rattle.model.proofs.Held.{Holds, holds-start, check-passed}
+use Rattle.model.proofs.Running.{Given, finish-holds}
+use Rattle.model.proofs.Acceptance.{sound, given, InRange, lines-ok}
+
+all-head : {A : Type 0} {P : A → Type 0} {x : A} {xs : List A} → All P (x ∷ xs) → P x
+all-head (one p ps) = p
+
+all-tail : {A : Type 0} {P : A → Type 0} {x : A} {xs : List A} → All P (x ∷ xs) → All P xs
+all-tail (one p ps) = ps
+
+-- sums over one more line, and what a finished command adds
+sum-more : (l : ℕ) (f : Cost → ℕ) (xs : List Line) (x : Line) → sumOf l f (xs ++ (x ∷ [])) ≡ sumOf l f xs + f (cost l (x .command))
+unfolding sumOf
+sum-more l f [] x = omega arith
+sum-more l f (y ∷ ys) x = rw (sum-more l f ys x) (omega arith)
+
+length-written : (n : ℕ) {xs : List Row} → n ≤ 7 → All Seven xs → length (written n xs) ≡ n * length xs
+unfolding written
+length-written n h none = omega arith
+length-written n h (one {x} {xs} e es) = rw (length-append, length-take-le n x (omega arith), length-written n h es) (omega arith)
+
+module _ {S : Setting} {K : ℕ} {u : Supply} {input : List Row} {d : Deal} (G : Given S K u input d) (xs : List Line) (ok : All (InRange (S .p) K) xs) where
+  -- what is known after each finished command
+  record Known (ys : List Line) (s : State) (vs : List ℕ) : Type 0 where
+    pub holds : Holds S d s vs
+    pub ranges : All (InRange (S .p) K) ys
+    pub done : List Line
+    pub split : xs ≡ done ++ ys
+    pub inputs : s .spent .inputs ≡ sumOf (S .l) (λ c. c .inputs) done
+    pub masks : s .spent .masks ≡ sumOf (S .l) (λ c. c .masks) done
+    pub triples : s .spent .triples ≡ sumOf (S .l) (λ c. c .triples) done
+    pub openings : s .spent .openings ≡ sumOf (S .l) (λ c. c .openings) done
+    pub revealed : s .spent .revealed ≡ sumOf (S .l) (λ c. c .revealed) done
+
+  known-start : Known xs (start d) (replicate 64 0)
+  unfolding start nothingSpent sumOf
+  known-start =
+      record {
+        holds = holds-start S d;
+        ranges = ok;
+        done = [];
+        split = refl;
+        inputs = refl;
+        masks = refl;
+        triples = refl;
+        openings = refl;
+        revealed = refl;
+      }
+
+  known-more : {x : Line} {ys : List Line} {s : State} {vs : List ℕ} → Known (x ∷ ys) s vs → check u (cost (S .l) (x .command)) (s .spent) ≡ 0
+      → Known ys (finish S input (x .command) s) (plainly (S .p) (secrets S input) (s .spent .inputs) (x .command) vs)
+  unfolding finish pay
+  known-more {x} {ys} {s} {vs} q e =
+      record {
+        holds = finish-holds G s vs (q .holds) (x .command) (all-head (q .ranges)) (check-passed u (cost (S .l) (x .command)) (s .spent) e);
+        ranges = all-tail (q .ranges);
+        done = q .done ++ (x ∷ []);
+        split = q .split ∙ rw append-assoc;
+        inputs = rw (sum-more (S .l) (λ c. c .inputs), q .inputs);
+        masks = rw (sum-more (S .l) (λ c. c .masks), q .masks);
+        triples = rw (sum-more (S .l) (λ c. c .triples), q .triples);
+        openings = rw (sum-more (S .l) (λ c. c .openings), q .openings);
+        revealed = rw (sum-more (S .l) (λ c. c .revealed), q .revealed);
+      }
+
+  known : {ys : List Line} {s : State} {vs : List ℕ} → Passes S u input d xs ys s vs → Known ys s vs
+  known begins = known-start
+  known (goes p e) = known-more (known p) e
+
+  right : {ys : List Line} {s : State} {vs : List ℕ} → Passes S u input d xs ys s vs → Right S s vs
+  right p =
+      let H = known p .holds .held in
+      record { sharing = λ r m. H .shared r m .sharing; secret-is = λ r m. H .shared r m .is; unset = H .unset }
+
+  counted : {ys : List Line} {s : State} {vs : List ℕ} → Passes S u input d xs ys s vs → Counted S d xs ys s
+  counted p =
+      let q = known p in
+      record {
+        done = q .done;
+        split = q .split;
+        inputs = q .inputs;
+        masks = q .masks;
+        triples = q .triples;
+        openings = q .openings;
+        revealed = q .revealed;
+        masks-left = q .holds .used .masks;
+        triples-left = q .holds .used .triples;
+        opened = q .holds .opens;
+        numbers = length-written (S .n) (G .parties .most) (q .holds .rows) ∙ ap (λ (o : ℕ). S .n * o) (q .holds .opens);
+        shown = q .holds .shows;
+      }
+
+  -- the run of the lines that are left stops in a state that it passes through
+  stopped : (end : ℕ) (ys : List Line) {s : State} {vs : List ℕ} → Passes S u input d xs ys s vs → Stopped S u input d xs end (runLines S u input end ys s)
+  unfolding runLines
+  stopped end [] p = record { left = []; values = _; passes = p; stops = at-end refl refl }
+  stopped end (y ∷ ys) {s} p =
+      either (check u (cost (S .l) (y .command)) (s .spent)) refl (λ e. stopped end ys (goes p e))
+    where
+      either : (k : ℕ) → k ≡ check u (cost (S .l) (y .command)) (s .spent)
+          → (check u (cost (S .l) (y .command)) (s .spent) ≡ 0 → Stopped S u input d xs end (runLines S u input end ys (finish S input (y .command) s)))
+          → Stopped S u input d xs end (orElse k (y .place) s (runLines S u input end ys (finish S input (y .command) s)))
+      either zero e go = go (sym e)
+      either (suc k) e go = record { left = y ∷ ys; values = _; passes = p; stops = at-line e (λ z. omega arith) refl }
+
+-- a command writes only what its cost says
+keeps : (S : Setting) (input : List Row) (c : Command) (s : State) (r : ℕ) → (In r (cost (S .l) c .writes) → ⊥)
+    → getD (finish S input c s .registers) r noRow ≡ getD (s .registers) r noRow
+unfolding finish perform put cost
+keeps S input END s r k = refl
+keeps S input (LOAD d) s r k = getD-set-other (s .registers) d r _ noRow (λ e. k (here e))
+keeps S input (CONST d v) s r k = getD-set-other (s .registers) d r _ noRow (λ e. k (here e))
+keeps S input (ADD d a b) s r k = getD-set-other (s .registers) d r _ noRow (λ e. k (here e))
+keeps S input (SUB d a b) s r k = getD-set-other (s .registers) d r _ noRow (λ e. k (here e))
+keeps S input (SCALE d a v) s r k = getD-set-other (s .registers) d r _ noRow (λ e. k (here e))
+keeps S input (MUL d a b) s r k = getD-set-other (s .registers) d r _ noRow (λ e. k (here e))
+keeps S input (MOD d a h m) s r k = getD-set-other (s .registers) d r _ noRow (λ e. k (here e))
+keeps S input (TRUNC d a h m) s r k = getD-set-other (s .registers) d r _ noRow (λ e. k (here e))
+keeps S input (LTZ d a h) s r k = getD-set-other (s .registers) d r _ noRow (λ e. k (here e))
+keeps S input (OVER d a h v) s r k = getD-set-other (s .registers) d r _ noRow (λ e. k (here e))
+keeps S input (BLOCKS d a h m) s r k = getD-set-other (s .registers) d r _ noRow (λ e. k (here e))
+keeps S input (REVEAL a) s r k = refl
+keeps S input (BITLT d b w v) s r k = getD-set-other (s .registers) d r _ noRow (λ e. k (here e))
+
+pub exactness : Exactness
+unfolding stopOf runScript
+exactness sheet log shown xs end A =
+    let Q = sound sheet (A .number) in
+    let G = given sheet Q log shown in
+    let ok = lines-ok _ _ _ xs end (A .script) in
+    record {
+      right = λ ys s vs p. right G xs ok p;
+      counted = λ ys s vs p. counted G xs ok p;
+      keeps = λ x ys s vs p. keeps _ _ (x .command) s;
+      stops = rw (A .number, A .script) (stopped G xs ok end xs begins);
+    }

@@ -1,0 +1,97 @@
+-- MOD and what rests on it, on the values of rows: whatever the mask, the plain interpreter's formulas.
+-- Assumes nothing.
+use mathlib.Core.Path.{_≡_, refl, sym, ap, subst, _∙_}
+use mathlib.Core.List.{List, [], _∷_}
+use Prim.Native.Nat.{ℕ, zero, suc, _+_, _-_, _*_, _%_, _^_, _≤_, _<_}
+use native.Mathlib.Nat.{mod-lt}
+use native.Mathlib.Omega.{arith}
+use lib.ListN.{length, take}
+use lib.Pow.{pow-pos, pow-mono}
+use Rattle.algebra.specs.Ring.{add, sub, mul}
+use Rattle.algebra.specs.Lists.{All, none, one}
+use Rattle.model.specs.Fields.{Field, Parties, inversePowerOf2}
+use Rattle.model.specs.Sharing.{Sharing}
+use Rattle.model.specs.Steps.{Setting, Row, Deal, Step, first, lessMask, plus, minus, times, constant, value, product, comparison, spelled, unmasked, remainder, quotient, floor, sign, over, blocks}
+use Rattle.model.specs.Sheet.{secrets}
+use Rattle.model.specs.Plain.{less, rem, quot, negative, exceeds, charged}
+use Rattle.model.proofs.Unmasking.{spelt, unmask, Masking, unmask-is}
+use Rattle.model.proofs.Shared.{Shared, Shareds, TripleOk, all-first, all-drop, shared-plus, shared-minus, shared-times, shared-constant, shared-zero, opens, shared-product, shared-comparison, shared-spelled, shareds-take, shareds-secrets}
+use Rattle.model.proofs.Taking.{Used, took-comparison}
+
+-- a well-formed mask: its rows are sharings, and their secrets are bits that spell a number below p
+pub record MaskOk (S : Setting) (r : List Row) : Type 0 where
+  pub sharings : All (Sharing (S .p) (S .n) (S .t)) r
+  pub masking : Masking (S .p) (S .l) (secrets S r)
+
+-- what is left of well-formed triples is well formed
+pub still-ok : {S : Setting} {d d′ : Deal} {m k : ℕ} → Used d m k d′ → All (TripleOk S) (d .triples) → All (TripleOk S) (d′ .triples)
+still-ok {k = k} u T = rw (u .triples) (all-drop k T)
+
+-- the operands k and m in their ranges
+pub record Ranges (K k m : ℕ) : Type 0 where
+  pub k-most : k ≤ K
+  pub m-least : 1 ≤ m
+  pub m-most : m < k
+
+module _ (S : Setting) {K : ℕ} (F : Field (S .p) (S .l) K) (P : Parties (S .n) (S .t)) where
+  power-lt : (m : ℕ) → m ≤ K → 2 ^ m < S .p
+  power-lt m h = omega (arith, pow-mono {i = m} {j = K} h, F .range-fits)
+
+  shared-unmasked : (m C : ℕ) → m ≤ K → {bs : List ℕ} {r : List Row} {f u : ℕ} {x y : Row} → Shareds S bs r → Shared S f x → Shared S u y
+      → Shared S (add (S .p) (sub (S .p) (add (S .p) (C % 2 ^ m) (mul (S .p) (sub (S .p) ((C + S .p) % 2 ^ m) (C % 2 ^ m)) f)) (spelt (S .p) (take m bs))) (mul (S .p) (2 ^ m) u))
+      (unmasked S m C r x y)
+  unfolding unmasked
+  shared-unmasked m C h R X Y =
+      let M = F .modulus-is in
+      shared-plus S M P
+      (shared-minus S M P (shared-plus S M P (shared-constant S M P (omega (arith, power-lt m h, mod-lt C (pow-pos m)))) (shared-times S M P _ X))
+      (shared-spelled S M P (shareds-take m R)))
+      (shared-times S M P (2 ^ m) Y)
+
+  pub shared-remainder : (k m : ℕ) → Ranges K k m → (d : Deal) → All (TripleOk S) (d .triples) → MaskOk S (first [] (d .masks)) → {a : ℕ} {x : Row} → Shared S a x
+      → Shared S (rem (S .p) k m a) (remainder S k m x d .left)
+  unfolding remainder unmask
+  shared-remainder k m G d T N {a} {x} X =
+      let M = F .modulus-is in
+      let r = first [] (d .masks) in
+      let R = shareds-secrets (N .sharings) in
+      let masked = shared-plus S M P (shared-plus S M P X (shared-constant S M P (power-lt (k - 1) (omega arith)))) (shared-spelled S M P R) in
+      let C = value S (plus S (plus S x (constant S (2 ^ (k - 1)))) (spelled S r)) in
+      let A = comparison S C r (lessMask d) in
+      let B = comparison S (C % 2 ^ m) (take m r) (A .deal) in
+      let D = comparison S ((C + S .p) % 2 ^ m) (take m r) (B .deal) in
+      let tA = still-ok (took-comparison S (P .most) C r (lessMask d) .used) T in
+      let tB = still-ok (took-comparison S (P .most) (C % 2 ^ m) (take m r) (A .deal) .used) tA in
+      let tD = still-ok (took-comparison S (P .most) ((C + S .p) % 2 ^ m) (take m r) (B .deal) .used) tB in
+      let f = shared-comparison S M P C (lessMask d) T R in
+      let u0 = shared-comparison S M P (C % 2 ^ m) (A .deal) tA (shareds-take m R) in
+      let u1 = shared-comparison S M P ((C + S .p) % 2 ^ m) (B .deal) tB (shareds-take m R) in
+      let g = shared-product S M P (D .deal) tD f (shared-minus S M P u1 u0) in
+      let all = shared-unmasked m C (omega arith) R f (shared-plus S M P u0 g) in
+      record { sharing = all .sharing; is = all .is ∙ ap (λ (c : ℕ). unmask (S .p) m c (secrets S r)) (opens S M P masked) ∙ unmask-is F (N .masking) k m a (G .k-most) (G .m-least) (G .m-most) }
+
+  shared-quotient : (k m : ℕ) {a : ℕ} {x z : Row} → Shared S a x → Shared S (rem (S .p) k m a) z → Shared S (quot (S .p) k m a) (quotient S m x z)
+  unfolding quot
+  shared-quotient k m X Z = let M = F .modulus-is in shared-times S M P _ (shared-minus S M P X Z)
+
+  pub shared-floor : (k m : ℕ) → Ranges K k m → (d : Deal) → All (TripleOk S) (d .triples) → MaskOk S (first [] (d .masks)) → {a : ℕ} {x : Row} → Shared S a x
+      → Shared S (quot (S .p) k m a) (floor S k m x d .left)
+  unfolding floor
+  shared-floor k m G d T N X = shared-quotient k m X (shared-remainder k m G d T N X)
+
+  pub shared-sign : (k : ℕ) → 2 ≤ k → k ≤ K → (d : Deal) → All (TripleOk S) (d .triples) → MaskOk S (first [] (d .masks)) → {a : ℕ} {x : Row} → Shared S a x
+      → Shared S (negative (S .p) k a) (sign S k x d .left)
+  unfolding sign negative
+  shared-sign k l h d T N X =
+      let M = F .modulus-is in
+      shared-minus S M P (shared-zero S M P) (shared-floor k (k - 1) (record { k-most = h; m-least = omega arith; m-most = omega arith }) d T N X)
+
+  pub shared-over : (k v : ℕ) → 2 ≤ k → k ≤ K → v < S .p → (d : Deal) → All (TripleOk S) (d .triples) → MaskOk S (first [] (d .masks)) → {a : ℕ} {x : Row} → Shared S a x
+      → Shared S (exceeds (S .p) k v a) (over S k v x d .left)
+  unfolding over exceeds
+  shared-over k v l h b d T N X = let M = F .modulus-is in shared-sign k l h d T N (shared-minus S M P (shared-constant S M P b) X)
+
+  pub shared-blocks : (k m : ℕ) → Ranges K k m → (d : Deal) → All (TripleOk S) (d .triples) → MaskOk S (first [] (d .masks)) → {a : ℕ} {x : Row} → Shared S a x
+      → Shared S (charged (S .p) k m a) (blocks S k m x d .left)
+  unfolding blocks charged
+  shared-blocks k m G d T N X = shared-floor k m G d T N X

@@ -1,0 +1,93 @@
+-- Demand 2: exactness and counts, about the states that runs of whole scripts on accepted sheets pass through.
+-- Assumes nothing.
+use mathlib.Core.Path.{_≡_}
+use mathlib.Core.Bool.{Bool, true, false}
+use mathlib.Core.List.{List, [], _∷_, _++_, List·Memᴰ as In}
+use Prim.Native.Nat.{ℕ, _+_, _*_, _<_}
+use lib.ListN.{length, getD, drop, replicate}
+use Rattle.model.specs.Sharing.{Sharing, secret}
+use Rattle.model.specs.Steps.{Setting, Row, Deal}
+use Rattle.model.specs.Script.{Line, accepted}
+use Rattle.model.specs.Costs.{Cost, cost}
+use Rattle.model.specs.Sheet.{headerOf, settingOf, inputIn, dealIn, secrets, sheetNumber}
+use Rattle.model.specs.Run.{Supply, State, Stop, noRow, check, finish, start, written, supplyOf, sheetScript, stopOf}
+use Rattle.model.specs.Plain.{plainly}
+
+-- "A sheet is accepted when it is not refused because of the input." It has lines and END's offset then.
+pub record Accepted (sheet : List ℕ) (xs : List Line) (end : ℕ) : Type 0 where
+  pub number : sheetNumber sheet ≡ 0
+  pub script : sheetScript sheet ≡ accepted xs end
+
+-- The states that the run of the lines xs passes through, at its start and after each finished command: with each the lines that are
+-- left, and the values that the plain interpreter gives the registers.
+pub data Passes (S : Setting) (u : Supply) (input : List Row) (d : Deal) (xs : List Line) : List Line → State → List ℕ → Type 0 where
+  begins : Passes S u input d xs xs (start d) (replicate 64 0)
+  goes : {x : Line} {ys : List Line} {s : State} {vs : List ℕ} → Passes S u input d xs (x ∷ ys) s vs
+      → check u (cost (S .l) (x .command)) (s .spent) ≡ 0
+      → Passes S u input d xs ys (finish S input (x .command) s) (plainly (S .p) (secrets S input) (s .spent .inputs) (x .command) vs)
+
+-- Every set register is a sharing, and its secret is the plain interpreter's value; the cells of an unset register are 0.
+pub record Right (S : Setting) (s : State) (vs : List ℕ) : Type 0 where
+  pub sharing : (r : ℕ) → getD (s .spent .marks) r false ≡ true → Sharing (S .p) (S .n) (S .t) (getD (s .registers) r noRow)
+  pub secret-is : (r : ℕ) → getD (s .spent .marks) r false ≡ true → secret (S .p) (S .t) (getD (s .registers) r noRow) ≡ getD vs r 0
+  pub unset : (r : ℕ) → getD (s .spent .marks) r false ≡ false → getD (s .registers) r noRow ≡ noRow
+
+-- the sum of what finished commands spend of one kind
+unfoldable pub sumOf : ℕ → (Cost → ℕ) → List Line → ℕ
+sumOf l f [] = 0
+sumOf l f (x ∷ xs) = f (cost l (x .command)) + sumOf l f xs
+
+-- The commands finished so far, and that the counts are the sums of what they spend; that so much is gone from the front of the deal, so
+-- that no item is used twice; and that the record has n numbers for each opening.
+pub record Counted (S : Setting) (d : Deal) (xs ys : List Line) (s : State) : Type 0 where
+  pub done : List Line
+  pub split : xs ≡ done ++ ys
+  pub inputs : s .spent .inputs ≡ sumOf (S .l) (λ c. c .inputs) done
+  pub masks : s .spent .masks ≡ sumOf (S .l) (λ c. c .masks) done
+  pub triples : s .spent .triples ≡ sumOf (S .l) (λ c. c .triples) done
+  pub openings : s .spent .openings ≡ sumOf (S .l) (λ c. c .openings) done
+  pub revealed : s .spent .revealed ≡ sumOf (S .l) (λ c. c .revealed) done
+  pub masks-left : s .deal .masks ≡ drop (s .spent .masks) (d .masks)
+  pub triples-left : s .deal .triples ≡ drop (s .spent .triples) (d .triples)
+  pub opened : length (s .opened) ≡ s .spent .openings
+  pub numbers : length (written (S .n) (s .opened)) ≡ S .n * s .spent .openings
+  pub shown : length (s .shown) ≡ s .spent .revealed
+
+-- How a run stops: after its last line at END, or at a line whose command the checks refuse.
+pub data Stops (S : Setting) (u : Supply) (end : ℕ) (x : Stop) : List Line → Type 0 where
+  at-end : x .number ≡ 0 → x .place ≡ end → Stops S u end x []
+  at-line : {y : Line} {ys : List Line} → x .number ≡ check u (cost (S .l) (y .command)) (x .state .spent) → (x .number ≡ 0 → ⊥)
+      → x .place ≡ y .place → Stops S u end x (y ∷ ys)
+
+pub record Stopped (S : Setting) (u : Supply) (input : List Row) (d : Deal) (xs : List Line) (end : ℕ) (x : Stop) : Type 0 where
+  pub left : List Line
+  pub values : List ℕ
+  pub passes : Passes S u input d xs left (x .state) values
+  pub stops : Stops S u end x left
+
+-- The claim, for a sheet and two buffer lengths.
+module _ (sheet : List ℕ) (log shown : ℕ) where
+  abbrev pub setting : Setting
+  setting = settingOf (headerOf sheet)
+
+  abbrev pub supply : Supply
+  supply = supplyOf (headerOf sheet) log shown
+
+  abbrev pub input : List Row
+  input = inputIn (headerOf sheet) sheet
+
+  abbrev pub deal : Deal
+  deal = dealIn (headerOf sheet) sheet
+
+  pub record Exactly (xs : List Line) (end : ℕ) : Type 0 where
+    pub right : (ys : List Line) (s : State) (vs : List ℕ) → Passes setting supply input deal xs ys s vs → Right setting s vs
+    pub counted : (ys : List Line) (s : State) (vs : List ℕ) → Passes setting supply input deal xs ys s vs → Counted setting deal xs ys s
+    -- a register that a command does not write keeps its row
+    pub keeps : (x : Line) (ys : List Line) (s : State) (vs : List ℕ) → Passes setting supply input deal xs (x ∷ ys) s vs
+        → (r : ℕ) → (In r (cost (setting .l) (x .command) .writes) → ⊥)
+        → getD (finish setting input (x .command) s .registers) r noRow ≡ getD (s .registers) r noRow
+    -- the run's stop is one of these states
+    pub stops : Stopped setting supply input deal xs end (stopOf sheet log shown)
+
+abbrev pub Exactness : Type 0
+Exactness = (sheet : List ℕ) (log shown : ℕ) (xs : List Line) (end : ℕ) → Accepted sheet xs end → Exactly sheet log shown xs end
