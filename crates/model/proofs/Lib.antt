@@ -25,3 +25,5 @@ pub mod SheetDeal
 pub mod Making
 pub mod Acceptance
 pub mod Exactness
+pub mod Figures
+pub mod Witness

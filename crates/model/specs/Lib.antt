@@ -13,3 +13,5 @@ pub mod Printed
 pub mod Plain
 pub mod Making
 pub mod Exactness
+pub mod Figures
+pub mod Witness

@@ -124,19 +124,39 @@ module _ (S : Setting) where
       plus (minus (plus (constant c0) (times (sub (S .p) c1 c0) f)) (spelled (take m r))) (times (2 ^ m) u)
 
   -- "MOD takes the next mask r. With X = (a + 2^(k−1)) modulo p, it opens C = X + r modulo p."
+  abbrev pub nextMask : Deal → List Row
+  nextMask d = first [] (d .masks)
+
+  abbrev pub masked : ℕ → Row → Deal → Row
+  masked k a d = plus (plus a (constant (2 ^ (k - 1)))) (spelled (nextMask d))
+
+  abbrev pub stepC : ℕ → Row → Deal → ℕ
+  stepC k a d = value (masked k a d)
+
+  -- "f is BITLT of C against all ℓ bits of r. u0 is BITLT of C mod 2^m, and u1 of (C + p) mod 2^m, each against the low m bits of r.
+  -- g = f times (u1 − u0) by MUL; u = u0 + g."
+  abbrev pub stepF : ℕ → Row → Deal → Step
+  stepF k a d = comparison (stepC k a d) (nextMask d) (lessMask d)
+
+  abbrev pub stepU0 : ℕ → ℕ → Row → Deal → Step
+  stepU0 k m a d = comparison (stepC k a d % 2 ^ m) (take m (nextMask d)) (stepF k a d .deal)
+
+  abbrev pub stepU1 : ℕ → ℕ → Row → Deal → Step
+  stepU1 k m a d = comparison ((stepC k a d + S .p) % 2 ^ m) (take m (nextMask d)) (stepU0 k m a d .deal)
+
+  abbrev pub stepG : ℕ → ℕ → Row → Deal → Step
+  stepG k m a d = product (stepF k a d .left) (minus (stepU1 k m a d .left) (stepU0 k m a d .left)) (stepU1 k m a d .deal)
+
+  abbrev pub stepU : ℕ → ℕ → Row → Deal → Row
+  stepU k m a d = plus (stepU0 k m a d .left) (stepG k m a d .left)
+
   unfoldable pub remainder : ℕ → ℕ → Row → Deal → Step
   remainder k m a d =
-      let r = first [] (d .masks) in
-      let masked = plus (plus a (constant (2 ^ (k - 1)))) (spelled r) in
-      let C = value masked in
-      let f = comparison C r (lessMask d) in
-      let u0 = comparison (C % 2 ^ m) (take m r) (f .deal) in
-      let u1 = comparison ((C + S .p) % 2 ^ m) (take m r) (u0 .deal) in
-      let g = product (f .left) (minus (u1 .left) (u0 .left)) (u1 .deal) in
       record {
-        left = unmasked m C r (f .left) (plus (u0 .left) (g .left));
-        opened = masked ∷ (f .opened ++ (u0 .opened ++ (u1 .opened ++ g .opened)));
-        deal = g .deal;
+        left = unmasked m (stepC k a d) (nextMask d) (stepF k a d .left) (stepU k m a d);
+        opened =
+            masked k a d ∷ (stepF k a d .opened ++ (stepU0 k m a d .opened ++ (stepU1 k m a d .opened ++ stepG k m a d .opened)));
+        deal = stepG k m a d .deal;
       }
 
   -- "TRUNC is (a − MOD) times the inverse of 2^m."
