@@ -11,7 +11,7 @@ use Rattle.algebra.specs.Ring.{add, sub, mul}
 use Rattle.algebra.specs.Lists.{All, none, one}
 use Rattle.model.specs.Fields.{Field, Parties, inversePowerOf2}
 use Rattle.model.specs.Sharing.{Sharing}
-use Rattle.model.specs.Steps.{Setting, Row, Deal, Step, first, lessMask, plus, minus, times, constant, value, product, comparison, spelled, unmasked, remainder, quotient, floor, sign, over, blocks}
+use Rattle.model.specs.Steps.{Setting, Row, Deal, Step, first, lessMask, plus, minus, times, nextMask, stepC, stepF, stepU0, stepU1, unmasked, remainder, quotient, floor, sign, over, blocks}
 use Rattle.model.specs.Sheet.{secrets}
 use Rattle.model.specs.Plain.{less, rem, quot, negative, exceeds, charged}
 use Rattle.model.proofs.Unmasking.{spelt, unmask, Masking, unmask-is}
@@ -53,22 +53,22 @@ module _ (S : Setting) {K : ℕ} (F : Field (S .p) (S .l) K) (P : Parties (S .n)
   unfolding remainder unmask
   shared-remainder k m G d T N {a} {x} X =
       let M = F .modulus-is in
-      let r = first [] (d .masks) in
+      let r = nextMask S d in
       let R = shareds-secrets (N .sharings) in
-      let masked = shared-plus S M P (shared-plus S M P X (shared-constant S M P (power-lt (k - 1) (omega arith)))) (shared-spelled S M P R) in
-      let C = value S (plus S (plus S x (constant S (2 ^ (k - 1)))) (spelled S r)) in
-      let A = comparison S C r (lessMask d) in
-      let B = comparison S (C % 2 ^ m) (take m r) (A .deal) in
-      let D = comparison S ((C + S .p) % 2 ^ m) (take m r) (B .deal) in
-      let tA = still-ok (took-comparison S (P .most) C r (lessMask d) .used) T in
-      let tB = still-ok (took-comparison S (P .most) (C % 2 ^ m) (take m r) (A .deal) .used) tA in
-      let tD = still-ok (took-comparison S (P .most) ((C + S .p) % 2 ^ m) (take m r) (B .deal) .used) tB in
+      let C = stepC S k x d in
+      let c = shared-plus S M P (shared-plus S M P X (shared-constant S M P (power-lt (k - 1) (omega arith)))) (shared-spelled S M P R) in
+      let t0 = still-ok (took-comparison S (P .most) C r (lessMask d) .used) T in
+      let t1 = still-ok (took-comparison S (P .most) (C % 2 ^ m) (take m r) (stepF S k x d .deal) .used) t0 in
+      let t2 = still-ok (took-comparison S (P .most) ((C + S .p) % 2 ^ m) (take m r) (stepU0 S k m x d .deal) .used) t1 in
       let f = shared-comparison S M P C (lessMask d) T R in
-      let u0 = shared-comparison S M P (C % 2 ^ m) (A .deal) tA (shareds-take m R) in
-      let u1 = shared-comparison S M P ((C + S .p) % 2 ^ m) (B .deal) tB (shareds-take m R) in
-      let g = shared-product S M P (D .deal) tD f (shared-minus S M P u1 u0) in
+      let u0 = shared-comparison S M P (C % 2 ^ m) (stepF S k x d .deal) t0 (shareds-take m R) in
+      let u1 = shared-comparison S M P ((C + S .p) % 2 ^ m) (stepU0 S k m x d .deal) t1 (shareds-take m R) in
+      let g = shared-product S M P (stepU1 S k m x d .deal) t2 f (shared-minus S M P u1 u0) in
       let all = shared-unmasked m C (omega arith) R f (shared-plus S M P u0 g) in
-      record { sharing = all .sharing; is = all .is ∙ ap (λ (c : ℕ). unmask (S .p) m c (secrets S r)) (opens S M P masked) ∙ unmask-is F (N .masking) k m a (G .k-most) (G .m-least) (G .m-most) }
+      record {
+        sharing = all .sharing;
+        is = all .is ∙ ap (λ (v : ℕ). unmask (S .p) m v (secrets S r)) (opens S M P c) ∙ unmask-is F (N .masking) k m a (G .k-most) (G .m-least) (G .m-most);
+      }
 
   shared-quotient : (k m : ℕ) {a : ℕ} {x z : Row} → Shared S a x → Shared S (rem (S .p) k m a) z → Shared S (quot (S .p) k m a) (quotient S m x z)
   unfolding quot

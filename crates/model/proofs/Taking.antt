@@ -9,7 +9,7 @@ use lib.ListN.{length, take, drop, length-append, length-take}
 use lib.Seq.{drop-nil, drop-drop}
 use Rattle.algebra.specs.Lists.{All, none, one}
 use Rattle.algebra.proofs.Rows.{length-row}
-use Rattle.model.specs.Steps.{Setting, Row, Deal, Step, first, others, lessTriple, lessMask, after, odd, plus, minus, times, constant, value, product, chosen, comparisonFrom, comparison, spelled, remainder, floor, sign, over, blocks}
+use Rattle.model.specs.Steps.{Setting, Row, Deal, Step, first, others, lessTriple, lessMask, after, odd, plus, minus, times, constant, value, product, chosen, comparisonFrom, comparison, nextMask, stepF, stepU0, stepU1, stepG, remainder, floor, sign, over, blocks}
 
 -- a row of seven cells
 abbrev pub Seven : Row → Type 0
@@ -87,23 +87,19 @@ module _ (S : Setting) (h : S .n ≤ 7) where
       → Took d 1 (S .l + 2 * m - 2) (1 + 2 * (S .l + 2 * m - 2)) (remainder S k m a d)
   unfolding remainder
   took-remainder k m a d len low high =
-      let r = first [] (d .masks) in
-      let C = value S (plus S (plus S a (constant S (2 ^ (k - 1)))) (spelled S r)) in
-      let F = comparison S C r (lessMask d) in
-      let U0 = comparison S (C % 2 ^ m) (take m r) (F .deal) in
-      let U1 = comparison S ((C + S .p) % 2 ^ m) (take m r) (U0 .deal) in
-      let f = took-comparison C r (lessMask d) in
-      let u = took-comparison (C % 2 ^ m) (take m r) (F .deal) in
-      let v = took-comparison ((C + S .p) % 2 ^ m) (take m r) (U0 .deal) in
-      let g = took-product (F .left) (minus S (U1 .left) (U0 .left)) (U1 .deal) in
+      let r = nextMask S d in
+      let f : Took (lessMask d) 0 (length r - 1) (2 * (length r - 1)) (stepF S k a d) = took-comparison _ r _ in
+      let u0 : Took (stepF S k a d .deal) 0 (length (take m r) - 1) (2 * (length (take m r) - 1)) (stepU0 S k m a d) = took-comparison _ (take m r) _ in
+      let u1 : Took (stepU0 S k m a d .deal) 0 (length (take m r) - 1) (2 * (length (take m r) - 1)) (stepU1 S k m a d) = took-comparison _ (take m r) _ in
+      let g : Took (stepU1 S k m a d .deal) 0 1 2 (stepG S k m a d) = took-product _ _ _ in
       let w : length (take m r) ≡ m = length-take m r ∙ omega arith in
       let one-mask : Used d 1 0 (lessMask d) = record { masks = drop-others 0 (d .masks); triples = refl } in
-      let all = used-then (used-then (used-then (used-then one-mask (f .used)) (u .used)) (v .used)) (g .used) in
+      let all = used-then (used-then (used-then (used-then one-mask (f .used)) (u0 .used)) (u1 .used)) (g .used) in
       let e : 0 + (length r - 1) + (length (take m r) - 1) + (length (take m r) - 1) + 1 ≡ S .l + 2 * m - 2 = omega arith in
       record {
         used = rw e at all;
-        opens = rw (length-append, length-append, length-append) (omega (arith, f .opens, u .opens, v .opens, g .opens));
-        rows = one (seven-plus _ _) (all-append (f .rows) (all-append (u .rows) (all-append (v .rows) (g .rows))));
+        opens = rw (length-append, length-append, length-append) (omega (arith, f .opens, u0 .opens, u1 .opens, g .opens));
+        rows = one (seven-plus _ _) (all-append (f .rows) (all-append (u0 .rows) (all-append (u1 .rows) (g .rows))));
       }
 
   -- what rests on MOD takes and opens the same
