@@ -8,10 +8,11 @@ use Prim.Native.Nat.{ℕ, zero, suc, _+_, _-_, _*_, _≤_, _<_, zero-le}
 use native.Mathlib.Decide.{decLt}
 use native.Mathlib.Numerals.{add-one}
 use native.Mathlib.Omega.{arith}
+use borrow.Rule.Slice.PartMut.{putMid, midOf}
 use borrow.Author.Tests.{lt-ltb, le-ltb}
 use lib.Dec.{T, ltb, ltb→lt, lt→ltb}
 use lib.ListN.{length, getD, take, drop, set, length-append, length-drop, drop-of-length-le}
-use lib.Seq.{drop-cons, take-suc, length-take-le, set-at}
+use lib.Seq.{drop-cons, take-suc, length-take-le, set-at, take-at, drop-at, take-all, drop-drop}
 use Rattle.algebra.specs.Lists.{Below, allBelow, from, total, over}
 use Rattle.algebra.proofs.Tests.{and-left, and-right, and-both}
 
@@ -135,3 +136,14 @@ pub writing-length : {vs xs : List ℕ} {n j : ℕ} {l : List ℕ} → Writing v
 writing-length {vs} {xs} {n} {j} W hv hx =
     let s : length (take j vs) ≡ j = length-take-le j vs (omega arith) in
     ap length (W .is) ∙ length-over (take j vs) xs (omega arith)
+
+-- A callee that was lent the part of ys from a on wrote vs over it, where us stand over the start of xs: both stand over the start of xs.
+pub over-then : (xs us vs ys last : List ℕ) (a : ℕ) → ys ≡ over us xs → length us ≡ a → last ≡ over vs (midOf a (length ys - a) ys)
+    → putMid a (length ys - a) ys last ≡ over (us ++ vs) xs
+unfolding over
+over-then xs us vs ys last a e h w =
+    let front : take a ys ≡ us = rw e (take-at us (drop (length us) xs) a h) in
+    let back : drop a ys ≡ drop a xs = rw (e, drop-at us (drop (length us) xs) a h, h) in
+    let whole : take (length ys - a) (drop a ys) ≡ drop a ys = take-all (length ys - a) (drop a ys) (rw length-drop (omega arith)) in
+    let none : drop (length ys - a) (drop a ys) ≡ [] = drop-of-length-le (drop a ys) {i = length ys - a} (rw length-drop (omega arith)) in
+    rw (w, whole, none, append-nil, front, back, drop-drop, length-append, h, append-assoc)

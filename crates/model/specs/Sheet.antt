@@ -68,10 +68,12 @@ unfoldable pub masksFrom : List ℕ → ℕ → ℕ → ℕ → ℕ → List (Li
 masksFrom s n l i zero = []
 masksFrom s n l i (suc c) = rowsAt s n i l ∷ masksFrom s n l (i + 4 * n * l) c
 
+abbrev pub tripleAt : List ℕ → ℕ → ℕ → Triple
+tripleAt s n i = record { a = rowAt s n i; b = rowAt s n (i + 4 * n); c = rowAt s n (i + 4 * n * 2) }
+
 unfoldable pub triplesFrom : List ℕ → ℕ → ℕ → ℕ → List Triple
 triplesFrom s n i zero = []
-triplesFrom s n i (suc c) =
-    record { a = rowAt s n i; b = rowAt s n (i + 4 * n); c = rowAt s n (i + 4 * n * 2) } ∷ triplesFrom s n (i + 4 * n * 3) c
+triplesFrom s n i (suc c) = tripleAt s n i ∷ triplesFrom s n (i + 4 * n * 3) c
 
 -- "Its input is its input rows, its deal its mask and triple rows."
 unfoldable pub inputIn : Header → List ℕ → List Row

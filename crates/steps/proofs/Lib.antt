@@ -1,0 +1,2 @@
+pub mod ByColumn
+pub mod Products

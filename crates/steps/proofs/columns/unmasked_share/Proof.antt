@@ -1,0 +1,28 @@
+-- `columns::unmasked_share` meets its contract: each operation is the field's.
+-- Assumes nothing.
+use borrow.Author.Needs.{needs}
+use Rattle.steps.proofs.columns.unmasked_share.Statement.{statement}
+use Rattle.steps.proofs.columns.unmasked_share.Tie as tie
+
+mul-requires : tie.Need-mul-requires
+mul-requires c κs = search needs
+
+add-requires : tie.Need-add-requires
+add-requires c κs = search needs
+
+sub-requires : tie.Need-sub-requires
+sub-requires c κs = search needs
+
+mul-requires-2 : tie.Need-mul-requires-2
+mul-requires-2 c κs = search needs
+
+add-requires-2 : tie.Need-add-requires-2
+add-requires-2 c κs = search needs
+
+returns : tie.Need-returns
+returns c = cc
+
+pub unmasked-share-spec : {M : Type 1} → statement M
+unmasked-share-spec =
+    tie.close
+    (tie.spec mul-requires add-requires sub-requires mul-requires-2 add-requires-2 returns)
