@@ -85,7 +85,7 @@ sound s e =
     }
 
 -- masks and triples by their rows
-masks-ok : (S : Setting) (ms : List (List Row)) → All (Sharing (S .p) (S .n) (S .t)) (maskRows ms) → All (λ m. T (goodMask S m)) ms
+pub masks-ok : (S : Setting) (ms : List (List Row)) → All (Sharing (S .p) (S .n) (S .t)) (maskRows ms) → All (λ m. T (goodMask S m)) ms
     → ((m : List Row) → In m ms → length m ≡ S .l) → All (MaskOk S) ms
 unfolding maskRows goodMask
 masks-ok S [] r g l = none
@@ -102,13 +102,13 @@ masks-ok S (m ∷ ms) r (one g gs) l =
     })
     (masks-ok S ms (all-right m (maskRows ms) r) gs (λ x i. l x (there i)))
 
-triples-ok : (S : Setting) (xs : List Triple) → All (Sharing (S .p) (S .n) (S .t)) (tripleRows xs) → All (λ x. T (goodTriple S x)) xs → All (TripleOk S) xs
+pub triples-ok : (S : Setting) (xs : List Triple) → All (Sharing (S .p) (S .n) (S .t)) (tripleRows xs) → All (λ x. T (goodTriple S x)) xs → All (TripleOk S) xs
 unfolding tripleRows goodTriple
 triples-ok S [] r g = none
 triples-ok S (x ∷ xs) (one a (one b (one c r))) (one g gs) =
     one (record { a-sharing = a; b-sharing = b; c-sharing = c; good = eqb→eq _ _ g }) (triples-ok S xs r gs)
 
-wider : {p l K : ℕ} → Field p l K → K < l
+pub wider : {p l K : ℕ} → Field p l K → K < l
 wider {p} {l} {K} F = go (decLt K l)
   where
     go : Dec (K < l) → K < l

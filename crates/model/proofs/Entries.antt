@@ -29,7 +29,7 @@ pub passed : (b : Bool) (number next : ℕ) → tried b (suc number) next ≡ 0 
 passed true number next e = (tt, e)
 passed false number next e = absurd (omega arith)
 
-pass : (b : Bool) (number next : ℕ) → T b → tried b number next ≡ next
+pub pass : (b : Bool) (number next : ℕ) → T b → tried b number next ≡ next
 pass true number next t = refl
 pass false number next t = absurd t
 

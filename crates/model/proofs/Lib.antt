@@ -27,3 +27,7 @@ pub mod Acceptance
 pub mod Exactness
 pub mod Figures
 pub mod Witness
+pub mod Veiling
+pub mod MadeSheets
+pub mod Secrecy
+pub mod TwinSheets

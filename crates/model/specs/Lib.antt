@@ -13,5 +13,7 @@ pub mod Printed
 pub mod Plain
 pub mod Making
 pub mod Exactness
+pub mod Secrecy
 pub mod Figures
 pub mod Witness
+pub mod TwinSheets

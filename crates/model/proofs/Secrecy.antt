@@ -1,0 +1,213 @@
+-- Demand 3 about sheets, from the theorem over rows: two accepted sheets with one header and one script, their parts, and the runs of
+-- sheets made of them.
+-- Assumes nothing.
+use mathlib.Core.Path.{_≡_, refl, sym, ap, ap₂, subst, _∙_}
+use mathlib.Core.List.{List, [], _∷_, _++_, List·Memᴰ as In}
+use Prim.Native.Nat.{ℕ, _+_, _*_, _≤_, _<_}
+use native.Mathlib.Omega.{arith}
+use lib.Dec.{T, eqb, eqb-refl, lt→ltb}
+use lib.ListN.{length, take, drop, length-drop}
+use lib.Seq.{length-take-le}
+use Rattle.algebra.specs.Ring.{mul}
+use Rattle.algebra.specs.Lists.{All, none, one, Below, allBelow}
+use Rattle.algebra.proofs.Lists.{all-below}
+use Rattle.algebra.proofs.Tests.{and-both}
+use Rattle.model.specs.Fields.{Field, Parties, modulus, bits, largestK}
+use Rattle.model.specs.Sharing.{Sharing, secret}
+use Rattle.model.specs.Shamir.{Group}
+use Rattle.model.specs.Steps.{Setting, Row, Triple, Deal}
+use Rattle.model.specs.Script.{Line, accepted, scriptOf}
+use Rattle.model.specs.Sheet.{Header, headerOf, settingOf, impliedLength, scriptIn, inputIn, dealIn, maskRows, tripleRows, dealRows, secrets, spell, goodMask, goodTriple, sheetOf}
+use Rattle.model.specs.Run.{Supply, Stop, start, orElse, runLines, outcome, supplyOf, runScript, sheetScript, stopOf, run}
+use Rattle.model.specs.Exactness.{Accepted}
+use Rattle.model.specs.Secrecy.{WellFormed, Alike, SameTo, runOn, Veil, Twins, Secrecy}
+use Rattle.model.proofs.Fields.{fields}
+use Rattle.model.proofs.Shared.{TripleOk}
+use Rattle.model.proofs.Masked.{MaskOk}
+use Rattle.model.proofs.Running.{length-secrets}
+use Rattle.model.proofs.SheetDeal.{shape-in}
+use Rattle.model.proofs.Taking.{all-append}
+use Rattle.model.proofs.Acceptance.{Sound, sound, all-map, all-left, all-right, masks-ok, triples-ok, wider, InRange, lines-ok}
+use Rattle.model.proofs.MadeSheets.{Facts, all-in, made-run}
+use Rattle.model.proofs.Veiling.{Formed, SameStop, Veiled, Veiling}
+
+-- masks and triples as `Formed` and as `WellFormed` has them
+mask-rows : (S : Setting) {ms : List (List Row)} → All (MaskOk S) ms → All (Sharing (S .p) (S .n) (S .t)) (maskRows ms)
+unfolding maskRows
+mask-rows S none = none
+mask-rows S (one m ms) = all-append (m .sharings) (mask-rows S ms)
+
+triple-rows : (S : Setting) {xs : List Triple} → All (TripleOk S) xs → All (Sharing (S .p) (S .n) (S .t)) (tripleRows xs)
+unfolding tripleRows
+triple-rows S none = none
+triple-rows S (one x xs) = one (x .a-sharing) (one (x .b-sharing) (one (x .c-sharing) (triple-rows S xs)))
+
+good-mask : (S : Setting) (m : List Row) → MaskOk S m → T (goodMask S m)
+unfolding goodMask
+good-mask S m N =
+    and-both (allBelow 2 (secrets S m)) _ (all-below 2 (secrets S m) .1 (N .masking .bits)) (lt→ltb (spell (secrets S m)) (S .p) (N .masking .below))
+
+good-triple : (S : Setting) (x : Triple) → TripleOk S x → T (goodTriple S x)
+unfolding goodTriple
+good-triple S x G = subst (λ (z : ℕ). T (eqb (secret (S .p) (S .t) (x .c)) z)) (G .good) (eqb-refl (secret (S .p) (S .t) (x .c)))
+
+module _ (h : Header) (log shown : ℕ) where
+  formed : {d : Deal} → WellFormed h d → Formed (settingOf h) (supplyOf h log shown) d
+  formed {d} W =
+      record {
+        masks-ok = masks-ok (settingOf h) (d .masks) (all-left (maskRows (d .masks)) (tripleRows (d .triples)) (W .sharings)) (W .good-masks) (all-in (W .bits-each));
+        masks-many = W .masks;
+        triples-ok = triples-ok (settingOf h) (d .triples) (all-right (maskRows (d .masks)) (tripleRows (d .triples)) (W .sharings)) (W .good-triples);
+        triples-many = W .triples;
+      }
+
+  well-formed : {d : Deal} → Formed (settingOf h) (supplyOf h log shown) d → WellFormed h d
+  well-formed {d} F =
+      record {
+        masks = F .masks-many;
+        bits-each = all-map (λ m N. sym (length-secrets (settingOf h) m) ∙ N .masking .count) (F .masks-ok);
+        triples = F .triples-many;
+        sharings = all-append (mask-rows (settingOf h) (F .masks-ok)) (triple-rows (settingOf h) (F .triples-ok));
+        good-masks = all-map (good-mask (settingOf h)) (F .masks-ok);
+        good-triples = all-map (good-triple (settingOf h)) (F .triples-ok);
+      }
+
+-- what an accepted sheet says of its parts, and its stop
+module _ (s : List ℕ) (xs : List Line) (end : ℕ) (A : Accepted s xs end) where
+  pub facts : Facts (headerOf s) (scriptIn (headerOf s) s) (inputIn (headerOf s) s) xs end
+  unfolding scriptIn impliedLength
+  facts =
+      let Q = sound s (A .number) in
+      let h = headerOf s in
+      record {
+        field = Q .field;
+        people = Q .people;
+        counts = Q .counts;
+        script-is = A .script;
+        script-length = length-take-le (h .script) (drop 11 s) (rw length-drop (omega (arith, Q .size)));
+        sharings = all-left (inputIn h s) (dealRows (dealIn h s)) (Q .sharings);
+        inputs = shape-in h s .inputs;
+      }
+
+  own-deal : (log shown : ℕ) → Formed (settingOf (headerOf s)) (supplyOf (headerOf s) log shown) (dealIn (headerOf s) s)
+  own-deal log shown =
+      let Q = sound s (A .number) in
+      let h = headerOf s in
+      let d = dealIn h s in
+      let rows = all-right (inputIn h s) (dealRows d) (Q .sharings) in
+      record {
+        masks-ok = masks-ok (settingOf h) (d .masks) (all-left (maskRows (d .masks)) (tripleRows (d .triples)) rows) (Q .masks) (shape-in h s .each);
+        masks-many = shape-in h s .masks;
+        triples-ok = triples-ok (settingOf h) (d .triples) (all-right (maskRows (d .masks)) (tripleRows (d .triples)) rows) (Q .triples);
+        triples-many = shape-in h s .triples;
+      }
+
+  own-stop : (log shown : ℕ) → stopOf s log shown
+      ≡ runLines (settingOf (headerOf s)) (supplyOf (headerOf s) log shown) (inputIn (headerOf s) s) end xs (start (dealIn (headerOf s) s))
+  unfolding stopOf runScript
+  own-stop log shown = rw (A .number, A .script)
+
+-- stops that a set cannot tell apart leave outcomes that it cannot tell apart
+same-outcome : (set : List ℕ) (n : ℕ) (a b : List ℕ) {x y : Stop} → SameStop set x y → SameTo set (outcome n a b x) (outcome n a b y)
+unfolding outcome
+same-outcome set n a b {x} {y} Q =
+    record {
+      log = rw (Q .opened);
+      revealed = rw (Q .shown);
+      number = Q .number;
+      place = Q .place;
+      inputs = rw (Q .spent);
+      masks = rw (Q .spent);
+      triples = rw (Q .spent);
+      openings = rw (Q .spent);
+      marks = rw (Q .spent);
+      columns = Q .columns;
+    }
+
+-- one header and one script, two inputs
+module _ (theorem : Veiling) (h : Header) (script : List ℕ) (xs : List Line) (end log shown : ℕ) (set : List ℕ) (G : Group (h .n) (h .t) set)
+    (input input′ : List Row) (F : Facts h script input xs end) (F′ : Facts h script input′ xs end) (L : Alike set input input′) (d d′ : Deal)
+    (D : Formed (settingOf h) (supplyOf h log shown) d) (D′ : Formed (settingOf h) (supplyOf h log shown) d′)
+    (e : runLines (settingOf h) (supplyOf h log shown) input end xs (start d) .state .shown
+    ≡ runLines (settingOf h) (supplyOf h log shown) input′ end xs (start d′) .state .shown) where
+  over-rows : Veiled (settingOf h) (supplyOf h log shown) end xs set input input′
+  over-rows =
+      let field = fields (h .field) (F .field) in
+      theorem (settingOf h) (largestK (h .field)) field (wider field) (F .people) (supplyOf h log shown) end xs
+      (lines-ok (modulus (h .field)) (largestK (h .field)) script xs end (F .script-is)) set G input input′ (F .sharings) (F′ .sharings)
+      (F .inputs) (F′ .inputs) L d d′ D D′ e
+
+  runs-same : (q : Deal) → WellFormed h q → (a b : List ℕ) → length a ≡ log → length b ≡ shown
+      → SameTo set (run (sheetOf h script input q) a b) (run (sheetOf h script input′ (over-rows .to q)) a b)
+  runs-same q W a b la lb =
+      rw (made-run F W a b, made-run F′ (well-formed h log shown (over-rows .to-formed q (formed h log shown W))) a b, la, lb)
+      (same-outcome set (h .n) a b (over-rows .same q (formed h log shown W)))
+
+pub secrecy-from : Veiling → Secrecy
+secrecy-from theorem set s s′ log shown B q =
+    record {
+      to = rows .to;
+      from = rows .from;
+      to-formed = λ d W. well-formed h log shown (rows .to-formed d (formed h log shown W));
+      from-formed = λ d W. well-formed h log shown (rows .from-formed d (formed h log shown W));
+      from-to = λ d W. rows .from-to d (formed h log shown W);
+      to-from = λ d W. rows .to-from d (formed h log shown W);
+      keeps = λ d W. rows .keeps d (formed h log shown W);
+      same = λ d W a b la lb.
+          subst (SameTo set (runOn s d a b)) (ap₂ (λ (z : Header) (c : List ℕ). run (sheetOf z c input′ (rows .to d)) a b) (B .header) (B .script))
+          (runs-same theorem h script xs e log shown set (B .parties) input input′ F F′ (B .inputs) (dealIn h s) d′ D D′ shown-same d W a b la lb);
+    }
+  where
+    xs : List Line
+    xs = B .lines
+
+    e : ℕ
+    e = B .place
+
+    h : Header
+    h = headerOf s
+
+    script : List ℕ
+    script = scriptIn (headerOf s) s
+
+    input : List Row
+    input = inputIn (headerOf s) s
+
+    input′ : List Row
+    input′ = inputIn (headerOf s′) s′
+
+    d′ : Deal
+    d′ = dealIn (headerOf s′) s′
+
+    -- the second sheet has the first one's lines
+    second : Accepted s′ (B .lines) (B .place)
+    second =
+        record {
+          number = B .second .number;
+          script = sym (ap₂ (λ (z : Header) (c : List ℕ). scriptOf (settingOf z .p) (largestK (z .field)) c) (B .header) (B .script)) ∙ B .first .script;
+        }
+
+    F : Facts (headerOf s) (scriptIn (headerOf s) s) (inputIn (headerOf s) s) (B .lines) (B .place)
+    F = facts s xs e (B .first)
+
+    F′ : Facts (headerOf s) (scriptIn (headerOf s) s) (inputIn (headerOf s′) s′) (B .lines) (B .place)
+    F′ =
+        subst (λ (c : List ℕ). Facts (headerOf s) c (inputIn (headerOf s′) s′) (B .lines) (B .place)) (sym (B .script))
+        (subst (λ (z : Header). Facts z (scriptIn (headerOf s′) s′) (inputIn (headerOf s′) s′) (B .lines) (B .place)) (sym (B .header)) (facts s′ xs e second))
+
+    D : Formed (settingOf (headerOf s)) (supplyOf (headerOf s) log shown) (dealIn (headerOf s) s)
+    D = own-deal s xs e (B .first) log shown
+
+    D′ : Formed (settingOf (headerOf s)) (supplyOf (headerOf s) log shown) (dealIn (headerOf s′) s′)
+    D′ =
+        subst (λ (z : Header). Formed (settingOf z) (supplyOf z log shown) (dealIn (headerOf s′) s′)) (sym (B .header))
+        (own-deal s′ xs e second log shown)
+
+    shown-same : runLines (settingOf (headerOf s)) (supplyOf (headerOf s) log shown) (inputIn (headerOf s) s) (B .place) (B .lines) (start (dealIn (headerOf s) s)) .state .shown
+        ≡ runLines (settingOf (headerOf s)) (supplyOf (headerOf s) log shown) (inputIn (headerOf s′) s′) (B .place) (B .lines) (start (dealIn (headerOf s′) s′)) .state .shown
+    shown-same =
+        ap (λ (x : Stop). x .state .shown) (sym (own-stop s xs e (B .first) log shown)) ∙ q ∙ ap (λ (x : Stop). x .state .shown) (own-stop s′ xs e second log shown)
+        ∙ ap (λ (z : Header). runLines (settingOf z) (supplyOf z log shown) (inputIn (headerOf s′) s′) e xs (start (dealIn (headerOf s′) s′)) .state .shown) (sym (B .header))
+
+    rows : Veiled (settingOf (headerOf s)) (supplyOf (headerOf s) log shown) (B .place) (B .lines) set (inputIn (headerOf s) s) (inputIn (headerOf s′) s′)
+    rows = over-rows theorem h script xs e log shown set (B .parties) input input′ F F′ (B .inputs) (dealIn h s) d′ D D′ shown-same

@@ -1,0 +1,104 @@
+-- The two sheets compute; and two sheets that reveal their inputs have no map of deals.
+-- Assumes nothing.
+use mathlib.Core.Path.{_≡_, refl, sym, ap, _∙_}
+use mathlib.Core.List.{List, [], _∷_, List·Memᴰ as In, List·Memᴰ·eq-of-singleton}
+use Prim.Native.Nat.{ℕ}
+use native.Mathlib.Omega.{arith}
+use lib.ListN.{length, getD}
+use Rattle.algebra.specs.Ring.{add, sub, mul}
+use Rattle.algebra.specs.Lists.{allBelow, from, over, All, none}
+use Rattle.algebra.specs.Rows.{tab, row}
+use Rattle.model.specs.Fields.{modulus, bits, largestK, inverse, inversePowerOf2, parties}
+use Rattle.model.specs.Sharing.{eval, share, newton, reciprocal, slope, interpolate, recover, secret, sameList, isSharing, at}
+use Rattle.model.specs.Shamir.{Group, Agree}
+use Rattle.model.specs.Bytes.{number, rowAt}
+use Rattle.model.specs.Steps.{Row, Triple, Deal, plus, minus, times, constant, value, beaver, product, comparisonFrom, comparison, spelled, unmasked, remainder, floor}
+use Rattle.model.specs.Script.{LOAD, REVEAL, commandAt, sizeAt, inRanges, numberAt, scriptFrom, scriptOf}
+use Rattle.model.specs.Costs.{cost}
+use Rattle.model.specs.Sheet.{headerOf, limits, impliedLength, scriptIn, rowsAt, masksFrom, triplesFrom, inputIn, dealIn, all, maskRows, tripleRows, spell, secrets, goodMask, goodTriple, sheetNumber, bytesOf, shareBytes, rowBytes, headerBytes, sheetOf}
+use Rattle.model.specs.Run.{allSet, marked, check, pay, put, perform, finish, runLines, nothingSpent, start, written, outcome, runScript, stopOf, run}
+use Rattle.model.specs.Witness.{line}
+use Rattle.model.specs.Secrecy.{Alike, end, row as and-row, WellFormed, Twins, Veil, runOn}
+use Rattle.model.specs.TwinSheets.{sheet, one, three, lines, plain, NotEmpty, TooMuch}
+use Rattle.model.proofs.Examples.{a-group}
+
+-- party 2's shares are the same
+agree : Agree (2 ∷ []) one three
+unfolding row tab
+agree = record { same = λ z m. rw (List·Memᴰ·eq-of-singleton m) }
+
+pub not-empty : NotEmpty
+unfolding add sub mul allBelow from tab row modulus bits largestK inverse inversePowerOf2 parties eval share newton reciprocal slope interpolate recover secret sameList isSharing number rowAt plus minus times constant value beaver product comparisonFrom comparison spelled unmasked remainder floor commandAt sizeAt inRanges numberAt scriptFrom scriptOf cost headerOf limits impliedLength scriptIn rowsAt masksFrom triplesFrom inputIn dealIn all maskRows tripleRows spell secrets goodMask goodTriple sheetNumber bytesOf shareBytes rowBytes headerBytes sheetOf allSet marked check pay put perform finish runLines nothingSpent start runScript stopOf sheet lines
+not-empty =
+    record {
+      twins =
+          record {
+            lines = lines;
+            lines′ = lines;
+            place = 18;
+            place′ = 18;
+            first = record { number = refl; script = refl };
+            second = record { number = refl; script = refl };
+            header = refl;
+            script = refl;
+            parties = a-group;
+            inputs = and-row agree end;
+          };
+      revealed = refl;
+      reveals = refl;
+      first-secret = refl;
+      second-secret = refl;
+    }
+
+-- the deal of nothing, and that a deal of no masks and no triples is it
+nothing : Deal
+nothing = record { masks = []; triples = [] }
+
+is-nil : {A : Type 0} (xs : List A) → length xs ≡ 0 → xs ≡ []
+is-nil [] e = refl
+is-nil (x ∷ xs) e = absurd (omega arith)
+
+is-nothing : (d : Deal) → length (d .masks) ≡ 0 → length (d .triples) ≡ 0 → d ≡ nothing
+unfolding nothing
+is-nothing d a b = λ i. record { masks = is-nil (d .masks) a i; triples = is-nil (d .triples) b i }
+
+formed : WellFormed (headerOf (plain one)) nothing
+unfolding nothing headerOf plain sheetOf headerBytes bytesOf number rowBytes shareBytes row tab maskRows tripleRows
+formed = record { masks = refl; bits-each = none; triples = refl; sharings = none; good-masks = none; good-triples = none }
+
+twins : Twins (2 ∷ []) (plain one) (plain three)
+unfolding add sub mul allBelow from tab row modulus bits largestK inverse parties eval share newton reciprocal slope interpolate recover secret sameList isSharing number rowAt commandAt sizeAt inRanges numberAt scriptFrom scriptOf headerOf limits impliedLength scriptIn rowsAt masksFrom triplesFrom inputIn dealIn all maskRows tripleRows sheetNumber bytesOf shareBytes rowBytes headerBytes sheetOf plain
+twins =
+    record {
+      lines = line 0 (LOAD 0) ∷ line 2 (REVEAL 0) ∷ [];
+      lines′ = line 0 (LOAD 0) ∷ line 2 (REVEAL 0) ∷ [];
+      place = 4;
+      place′ = 4;
+      first = record { number = refl; script = refl };
+      second = record { number = refl; script = refl };
+      header = refl;
+      script = refl;
+      parties = a-group;
+      inputs = and-row agree end;
+    }
+
+-- what each input reveals on that deal
+reveals : (runOn (plain one) nothing (0 ∷ 0 ∷ 0 ∷ []) (0 ∷ []) .revealed ≡ 1 ∷ [])
+    × (runOn (plain three) nothing (0 ∷ 0 ∷ 0 ∷ []) (0 ∷ []) .revealed ≡ 3 ∷ [])
+unfolding nothing add sub mul allBelow from over tab row modulus bits largestK inverse parties eval share newton reciprocal slope interpolate recover secret sameList isSharing number rowAt value commandAt sizeAt inRanges numberAt scriptFrom scriptOf cost headerOf limits impliedLength scriptIn rowsAt masksFrom triplesFrom inputIn dealIn all maskRows tripleRows sheetNumber bytesOf shareBytes rowBytes headerBytes sheetOf allSet marked check pay put perform finish runLines nothingSpent start written outcome runScript stopOf run plain
+reveals = (refl, refl)
+
+-- the header deals nothing
+none-dealt : (headerOf (plain one) .masks ≡ 0) × (headerOf (plain one) .triples ≡ 0)
+unfolding headerOf plain sheetOf headerBytes bytesOf number rowBytes shareBytes row tab maskRows tripleRows
+none-dealt = (refl, refl)
+
+pub too-much : TooMuch → ⊥
+too-much claim =
+    let veil = claim (2 ∷ []) (plain one) (plain three) 3 1 twins in
+    let image = veil .to-formed nothing formed in
+    let same-deal = is-nothing (veil .to nothing) (image .masks ∙ none-dealt .0) (image .triples ∙ none-dealt .1) in
+    let same = veil .same nothing formed (0 ∷ 0 ∷ 0 ∷ []) (0 ∷ []) refl refl .revealed in
+    let clash : _≡_ {A = List ℕ} (1 ∷ []) (3 ∷ []) =
+    sym (reveals .0) ∙ same ∙ ap (λ (d : Deal). runOn (plain three) d (0 ∷ 0 ∷ 0 ∷ []) (0 ∷ []) .revealed) same-deal ∙ reveals .1 in
+    omega (arith, ap (λ (l : List ℕ). getD l 0 0) clash)

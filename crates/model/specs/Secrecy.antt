@@ -1,0 +1,86 @@
+-- Demand 3: no set of t parties can tell two inputs apart. One claim about the runs of whole scripts on sheets.
+-- Assumes nothing.
+use mathlib.Core.Path.{_≡_}
+use mathlib.Core.Bool.{Bool}
+use mathlib.Core.List.{List, [], _∷_}
+use Prim.Native.Nat.{ℕ}
+use lib.Dec.{T}
+use lib.ListN.{length}
+use Rattle.algebra.specs.Lists.{All}
+use Rattle.model.specs.Fields.{bits}
+use Rattle.model.specs.Sharing.{Sharing}
+use Rattle.model.specs.Shamir.{Group, Agree}
+use Rattle.model.specs.Steps.{Setting, Row, Triple, Deal}
+use Rattle.model.specs.Script.{Line}
+use Rattle.model.specs.Sheet.{Header, headerOf, settingOf, scriptIn, inputIn, dealRows, goodMask, goodTriple, sheetOf}
+use Rattle.model.specs.Run.{Outcome, stopOf, run}
+use Rattle.model.specs.Exactness.{Accepted}
+
+-- "A deal is well formed when it has the header's masks and triples, each share is below p, each row is a sharing, and each mask and triple
+-- is well formed." A sharing's shares are below p.
+pub record WellFormed (h : Header) (d : Deal) : Type 0 where
+  pub masks : length (d .masks) ≡ h .masks
+  pub bits-each : All (λ m. length m ≡ bits (h .field)) (d .masks)
+  pub triples : length (d .triples) ≡ h .triples
+  pub sharings : All (Sharing (settingOf h .p) (h .n) (h .t)) (dealRows d)
+  pub good-masks : All (λ m. T (goodMask (settingOf h) m)) (d .masks)
+  pub good-triples : All (λ x. T (goodTriple (settingOf h) x)) (d .triples)
+
+-- two lists of rows agree in a set's columns, row by row
+pub data Alike (set : List ℕ) : List Row → List Row → Type 0 where
+  end : Alike set [] []
+  row : {x y : Row} {xs ys : List Row} → Agree set x y → Alike set xs ys → Alike set (x ∷ xs) (y ∷ ys)
+
+-- two outcomes that a set cannot tell apart: "write the same record and the same revealed list, stop with the same number at the same place,
+-- with the same counts and the same registers set, and leave that set the same columns"
+pub record SameTo (set : List ℕ) (x y : Outcome) : Type 0 where
+  pub log : x .log ≡ y .log
+  pub revealed : x .revealed ≡ y .revealed
+  pub number : x .number ≡ y .number
+  pub place : x .place ≡ y .place
+  pub inputs : x .inputs ≡ y .inputs
+  pub masks : x .masks ≡ y .masks
+  pub triples : x .triples ≡ y .triples
+  pub openings : x .openings ≡ y .openings
+  pub marks : x .marks ≡ y .marks
+  pub columns : Alike set (x .registers) (y .registers)
+
+-- "Running an input on a deal is running the sheet made of header, script, input and deal": the input and the script of the sheet s
+abbrev pub runOn : List ℕ → Deal → List ℕ → List ℕ → Outcome
+runOn s d = run (sheetOf (headerOf s) (scriptIn (headerOf s) s) (inputIn (headerOf s) s) d)
+
+-- "a one-to-one map of all well-formed deals onto themselves that keeps that set's dealt shares": a map and the map that undoes it
+pub record Veil (set s s′ : List ℕ) (log shown : ℕ) : Type 0 where
+  pub to : Deal → Deal
+  pub from : Deal → Deal
+  pub to-formed : (d : Deal) → WellFormed (headerOf s) d → WellFormed (headerOf s) (to d)
+  pub from-formed : (d : Deal) → WellFormed (headerOf s) d → WellFormed (headerOf s) (from d)
+  pub from-to : (d : Deal) → WellFormed (headerOf s) d → from (to d) ≡ d
+  pub to-from : (d : Deal) → WellFormed (headerOf s) d → to (from d) ≡ d
+  pub keeps : (d : Deal) → WellFormed (headerOf s) d → Alike set (dealRows d) (dealRows (to d))
+  -- "for every well-formed deal, the first sheet's input run on it and the second sheet's input run on its image", whatever the buffers held
+  pub same : (d : Deal) → WellFormed (headerOf s) d → (a b : List ℕ) → length a ≡ log → length b ≡ shown
+      → SameTo set (runOn s d a b) (runOn s′ (to d) a b)
+
+-- "For any set of t parties, take any two accepted sheets with the same header, script … whose input shares agree in that set's columns"
+pub record Twins (set s s′ : List ℕ) : Type 0 where
+  pub lines : List Line
+  pub lines′ : List Line
+  pub place : ℕ
+  pub place′ : ℕ
+  pub first : Accepted s lines place
+  pub second : Accepted s′ lines′ place′
+  pub header : headerOf s ≡ headerOf s′
+  pub script : scriptIn (headerOf s) s ≡ scriptIn (headerOf s′) s′
+  pub parties : Group (headerOf s .n) (headerOf s .t) set
+  pub inputs : Alike set (inputIn (headerOf s) s) (inputIn (headerOf s′) s′)
+
+-- "A sheet's revealed values are the secrets read by the REVEALs that finish when it is run, in order."
+abbrev pub revealedBy : List ℕ → ℕ → ℕ → List ℕ
+revealedBy s log shown = stopOf s log shown .state .shown
+
+-- "and whose revealed values agree, whatever the script does and wherever its run stops, a refused command included. Then there is a
+-- one-to-one map": fixed by the set, the two sheets and the output lengths
+abbrev pub Secrecy : Type 0
+Secrecy =
+    (set s s′ : List ℕ) (log shown : ℕ) → Twins set s s′ → revealedBy s log shown ≡ revealedBy s′ log shown → Veil set s s′ log shown

@@ -1,0 +1,50 @@
+-- Demand 3 is not empty: two sheets that meet its hypotheses and differ in a secret. And it needs the agreement of revealed values: without
+-- it the claim is false.
+-- Assumes nothing.
+use mathlib.Core.Path.{_≡_}
+use mathlib.Core.List.{List, [], _∷_, map}
+use Prim.Native.Nat.{ℕ}
+use lib.ListN.{replicate}
+use Rattle.algebra.specs.Rows.{padded}
+use Rattle.model.specs.Sharing.{secret}
+use Rattle.model.specs.Steps.{Row, Deal}
+use Rattle.model.specs.Script.{LOAD, MUL, MOD, TRUNC, REVEAL, Line}
+use Rattle.model.specs.Sheet.{Header, headerOf, inputIn, secrets, sheetOf}
+use Rattle.model.specs.Figures.{small, of, five}
+use Rattle.model.specs.Witness.{line}
+use Rattle.model.specs.Secrecy.{Twins, Veil, revealedBy}
+
+-- Field 0, three parties, threshold 1. Party 2 holds the share 3 of both inputs: of 1 + x, with the secret 1, and of 3.
+abbrev pub one : Row
+one = padded (2 ∷ 3 ∷ 4 ∷ [])
+
+abbrev pub three : Row
+three = padded (3 ∷ 3 ∷ 3 ∷ [])
+
+-- LOAD 0, MUL 1 0 0, TRUNC 2 0 3 1, MOD 3 0 3 1, REVEAL 3, END: the squares and the halves differ; what is left modulo 2 is 1 of both
+unfoldable pub sheet : Row → List ℕ
+sheet x =
+    sheetOf (record { field = 0; n = 3; t = 1; inputs = 1; masks = 2; triples = 9; script = 19 })
+    (1 ∷ 0 ∷ 6 ∷ 1 ∷ 0 ∷ 0 ∷ 8 ∷ 2 ∷ 0 ∷ 3 ∷ 1 ∷ 7 ∷ 3 ∷ 0 ∷ 3 ∷ 1 ∷ 12 ∷ 3 ∷ 0 ∷ []) (x ∷ [])
+    (record { masks = replicate 2 (map (of small) five); triples = replicate 9 (record { a = of small 2; b = of small 3; c = of small 6 }) })
+
+unfoldable pub lines : List Line
+lines = line 0 (LOAD 0) ∷ line 2 (MUL 1 0 0) ∷ line 6 (TRUNC 2 0 3 1) ∷ line 11 (MOD 3 0 3 1) ∷ line 16 (REVEAL 3) ∷ []
+
+-- with a record of 63 numbers, for 21 openings, and one revealed number both runs come to END
+pub record NotEmpty : Type 0 where
+  pub twins : Twins (2 ∷ []) (sheet one) (sheet three)
+  pub revealed : revealedBy (sheet one) 63 1 ≡ revealedBy (sheet three) 63 1
+  pub reveals : revealedBy (sheet one) 63 1 ≡ 1 ∷ []
+  pub first-secret : secrets small (inputIn (headerOf (sheet one)) (sheet one)) ≡ 1 ∷ []
+  pub second-secret : secrets small (inputIn (headerOf (sheet three)) (sheet three)) ≡ 3 ∷ []
+
+-- LOAD 0, REVEAL 0, END: the same inputs, which the script reveals
+unfoldable pub plain : Row → List ℕ
+plain x =
+    sheetOf (record { field = 0; n = 3; t = 1; inputs = 1; masks = 0; triples = 0; script = 5 }) (1 ∷ 0 ∷ 12 ∷ 0 ∷ 0 ∷ []) (x ∷ [])
+    (record { masks = []; triples = [] })
+
+-- the claim without the agreement of revealed values
+abbrev pub TooMuch : Type 0
+TooMuch = (set s s′ : List ℕ) (log shown : ℕ) → Twins set s s′ → Veil set s s′ log shown
