@@ -8,7 +8,6 @@ pub mod Coefficients
 pub mod Entries
 pub mod Shamir
 pub mod Examples
-pub mod Printed
 pub mod Bits
 pub mod Comparing
 pub mod Unmasking
@@ -25,9 +24,16 @@ pub mod SheetDeal
 pub mod Making
 pub mod Acceptance
 pub mod Exactness
-pub mod Figures
-pub mod Witness
+pub mod Tied
+pub mod Trees
+pub mod Twins
+pub mod Growing
+pub mod Relating
 pub mod Veiling
+pub mod Veil
 pub mod MadeSheets
 pub mod Secrecy
+pub mod Printed
+pub mod Figures
+pub mod Witness
 pub mod TwinSheets

@@ -34,7 +34,7 @@ pub record Ranges (K k m : ℕ) : Type 0 where
   pub m-most : m < k
 
 module _ (S : Setting) {K : ℕ} (F : Field (S .p) (S .l) K) (P : Parties (S .n) (S .t)) where
-  power-lt : (m : ℕ) → m ≤ K → 2 ^ m < S .p
+  pub power-lt : (m : ℕ) → m ≤ K → 2 ^ m < S .p
   power-lt m h = omega (arith, pow-mono {i = m} {j = K} h, F .range-fits)
 
   shared-unmasked : (m C : ℕ) → m ≤ K → {bs : List ℕ} {r : List Row} {f u : ℕ} {x y : Row} → Shareds S bs r → Shared S f x → Shared S u y

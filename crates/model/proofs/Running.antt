@@ -63,6 +63,26 @@ set-others : (marks : List Bool) (r : ℕ) (rs : List ℕ) → T (allSet marks (
 unfolding allSet
 set-others marks r rs t = and-right (getD marks r false) (allSet marks rs) t
 
+-- what the tests of a command's operands say: k in its range; k and m of MOD, TRUNC and BLOCKS; k and k − 1 of LTZ and OVER
+k-range : (K k : ℕ) → T (kIn K k) → (2 ≤ k) × (k ≤ K)
+k-range K k t = (leb→le 2 k (and-left (leb 2 k) (leb k K) t), leb→le k K (and-right (leb 2 k) (leb k K) t))
+
+pub ranges : (K d a k m : ℕ) → T (register d && register a && kIn K k && mIn k m) → Ranges K k m
+ranges K d a k m ok =
+    let t = and-right (register d && register a) (kIn K k) (and-left (register d && register a && kIn K k) (mIn k m) ok) in
+    let b = and-right (register d && register a && kIn K k) (mIn k m) ok in
+    record {
+      k-most = k-range K k t .1;
+      m-least = leb→le 1 m (and-left (leb 1 m) (ltb m k) b);
+      m-most = ltb→lt m k (and-right (leb 1 m) (ltb m k) b);
+    }
+
+pub sign-ranges : (K d a k : ℕ) → T (register d && register a && kIn K k) → Ranges K k (k - 1)
+sign-ranges K d a k ok =
+    let t = and-right (register d && register a) (kIn K k) ok in
+    let r = k-range K k t in
+    record { k-most = r .1; m-least = omega arith; m-most = omega arith }
+
 module _ {S : Setting} {K : ℕ} {u : Supply} {input : List Row} {d₀ : Deal} (G : Given S K u input d₀) where
   -- registers b to b + w - 1
   shareds-from : (s : State) {vs : List ℕ} → Held S (s .spent .marks) (s .registers) vs → (b w : ℕ) → T (allSet (s .spent .marks) (from b w))
@@ -83,21 +103,6 @@ module _ {S : Setting} {K : ℕ} {u : Supply} {input : List Row} {d₀ : Deal} (
   -- a command that takes a mask finds a well-formed one
   mask-left : {s : State} {vs : List ℕ} → Holds S d₀ s vs → s .spent .masks + 1 ≤ u .masks → MaskOk S (first [] (s .deal .masks))
   mask-left {s} H h = rw (H .used .masks) (next-mask (G .masks-ok) (s .spent .masks) (omega (arith, G .masks-many)))
-
-  -- the tests of a command's operands
-  k-range : (k : ℕ) → T (kIn K k) → (2 ≤ k) × (k ≤ K)
-  k-range k t = (leb→le 2 k (and-left (leb 2 k) (leb k K) t), leb→le k K (and-right (leb 2 k) (leb k K) t))
-
-  ranges : (k m : ℕ) → T (kIn K k) → T (mIn k m) → Ranges K k m
-  ranges k m a b =
-      record {
-        k-most = k-range k a .1;
-        m-least = leb→le 1 m (and-left (leb 1 m) (ltb m k) b);
-        m-most = ltb→lt m k (and-right (leb 1 m) (ltb m k) b);
-      }
-
-  sign-range : (k : ℕ) → (2 ≤ k) × (k ≤ K) → Ranges K k (k - 1)
-  sign-range k r = record { k-most = r .1; m-least = omega arith; m-most = omega arith }
 
   -- register d, then more tests
   low : (d : ℕ) (x : Bool) → T (register d && x) → d < 64
@@ -154,35 +159,30 @@ module _ {S : Setting} {K : ℕ} {u : Supply} {input : List Row} {d₀ : Deal} (
         holds-put 0 _ H (low₂ d (register a) (register b) ok) (took-product S (G .parties .most) _ _ _)
         (shared-product S (G .field .modulus-is) (G .parties) _ (triples-left H) (reads a _ (Q .reads)) (reads-second a b _ (Q .reads)))
     finish-holds (MOD d a k m) ok Q =
-        let R = ranges k m (and-right (register d && register a) (kIn K k) (and-left (register d && register a && kIn K k) (mIn k m) ok))
-        (and-right (register d && register a && kIn K k) (mIn k m) ok) in
+        let R = ranges K d a k m ok in
         holds-put 0 _ H (low₃ d (register a) (kIn K k) (mIn k m) ok)
         (took-remainder S (G .parties .most) k m _ _ (size k m R (Q .masks)) (R .m-least) (fits k m R (Q .masks)))
         (shared-remainder S (G .field) (G .parties) k m R _ (triples-left H) (mask k m R (Q .masks)) (reads a _ (Q .reads)))
     finish-holds (TRUNC d a k m) ok Q =
-        let R = ranges k m (and-right (register d && register a) (kIn K k) (and-left (register d && register a && kIn K k) (mIn k m) ok))
-        (and-right (register d && register a && kIn K k) (mIn k m) ok) in
+        let R = ranges K d a k m ok in
         holds-put 0 _ H (low₃ d (register a) (kIn K k) (mIn k m) ok)
         (took-floor S (G .parties .most) k m _ _ (size k m R (Q .masks)) (R .m-least) (fits k m R (Q .masks)))
         (shared-floor S (G .field) (G .parties) k m R _ (triples-left H) (mask k m R (Q .masks)) (reads a _ (Q .reads)))
     finish-holds (BLOCKS d a k m) ok Q =
-        let R = ranges k m (and-right (register d && register a) (kIn K k) (and-left (register d && register a && kIn K k) (mIn k m) ok))
-        (and-right (register d && register a && kIn K k) (mIn k m) ok) in
+        let R = ranges K d a k m ok in
         holds-put 0 _ H (low₃ d (register a) (kIn K k) (mIn k m) ok)
         (took-blocks S (G .parties .most) k m _ _ (size k m R (Q .masks)) (R .m-least) (fits k m R (Q .masks)))
         (shared-blocks S (G .field) (G .parties) k m R _ (triples-left H) (mask k m R (Q .masks)) (reads a _ (Q .reads)))
     finish-holds (LTZ d a k) ok Q =
-        let r = k-range k (and-right (register d && register a) (kIn K k) ok) in
-        let R = sign-range k r in
+        let R = sign-ranges K d a k ok in
         holds-put 0 _ H (low₂ d (register a) (kIn K k) ok)
-        (took-sign S (G .parties .most) k _ _ (size k (k - 1) R (Q .masks)) (r .0) (fits k (k - 1) R (Q .masks)))
-        (shared-sign S (G .field) (G .parties) k (r .0) (r .1) _ (triples-left H) (mask k (k - 1) R (Q .masks)) (reads a _ (Q .reads)))
+        (took-sign S (G .parties .most) k _ _ (size k (k - 1) R (Q .masks)) (omega (arith, R .m-least)) (fits k (k - 1) R (Q .masks)))
+        (shared-sign S (G .field) (G .parties) k (omega (arith, R .m-least)) (R .k-most) _ (triples-left H) (mask k (k - 1) R (Q .masks)) (reads a _ (Q .reads)))
     finish-holds (OVER d a k v) ok Q =
-        let r = k-range k (and-right (register d && register a) (kIn K k) (and-left (register d && register a && kIn K k) (ltb v (S .p)) ok)) in
-        let R = sign-range k r in
+        let R = sign-ranges K d a k (and-left (register d && register a && kIn K k) (ltb v (S .p)) ok) in
         holds-put 0 _ H (low₃ d (register a) (kIn K k) (ltb v (S .p)) ok)
-        (took-over S (G .parties .most) k v _ _ (size k (k - 1) R (Q .masks)) (r .0) (fits k (k - 1) R (Q .masks)))
-        (shared-over S (G .field) (G .parties) k v (r .0) (r .1) (ltb→lt v (S .p) (and-right (register d && register a && kIn K k) (ltb v (S .p)) ok)) _
+        (took-over S (G .parties .most) k v _ _ (size k (k - 1) R (Q .masks)) (omega (arith, R .m-least)) (fits k (k - 1) R (Q .masks)))
+        (shared-over S (G .field) (G .parties) k v (omega (arith, R .m-least)) (R .k-most) (ltb→lt v (S .p) (and-right (register d && register a && kIn K k) (ltb v (S .p)) ok)) _
         (triples-left H) (mask k (k - 1) R (Q .masks)) (reads a _ (Q .reads)))
     finish-holds (REVEAL a) ok Q =
         holds-shown _ _ a H (length-sharing (G .field .modulus-is) (G .parties) (reads a [] (Q .reads) .sharing))

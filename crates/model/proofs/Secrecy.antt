@@ -29,6 +29,7 @@ use Rattle.model.proofs.SheetDeal.{shape-in}
 use Rattle.model.proofs.Taking.{all-append}
 use Rattle.model.proofs.Acceptance.{Sound, sound, all-map, all-left, all-right, masks-ok, triples-ok, wider, InRange, lines-ok}
 use Rattle.model.proofs.MadeSheets.{Facts, all-in, made-run}
+use Rattle.model.proofs.Veil.{veiling}
 use Rattle.model.proofs.Veiling.{Formed, SameStop, Veiled, Veiling}
 
 -- masks and triples as `Formed` and as `WellFormed` has them
@@ -211,3 +212,7 @@ secrecy-from theorem set s s′ log shown B q =
 
     rows : Veiled (settingOf (headerOf s)) (supplyOf (headerOf s) log shown) (B .place) (B .lines) set (inputIn (headerOf s) s) (inputIn (headerOf s′) s′)
     rows = over-rows theorem h script xs e log shown set (B .parties) input input′ F F′ (B .inputs) (dealIn h s) d′ D D′ shown-same
+
+-- demand 3
+pub secrecy : Secrecy
+secrecy = secrecy-from veiling

@@ -87,7 +87,7 @@ module _ (S : Setting) (M : Modulus (S .p)) (P : Parties (S .n) (S .t)) where
       }
 
   -- Beaver's identity
-  shared-beaver : (v w : ℕ) (t : Triple) → TripleOk S t → {a1 b1 : ℕ} → a1 ≡ sub (S .p) v (secret (S .p) (S .t) (t .a))
+  pub shared-beaver : (v w : ℕ) (t : Triple) → TripleOk S t → {a1 b1 : ℕ} → a1 ≡ sub (S .p) v (secret (S .p) (S .t) (t .a))
       → b1 ≡ sub (S .p) w (secret (S .p) (S .t) (t .b)) → Shared S (mul (S .p) v w) (beaver S a1 b1 t)
   unfolding beaver
   shared-beaver v w t T {a1} {b1} ea eb =
