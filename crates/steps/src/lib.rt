@@ -2,3 +2,5 @@
 // a lent part of the record.
 pub mod columns;
 pub mod product;
+pub mod quotient;
+pub mod remainder;
