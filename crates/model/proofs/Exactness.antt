@@ -7,7 +7,7 @@ use Prim.Native.Nat.{ℕ, zero, suc, _+_, _*_, _≤_, _<_}
 use native.Mathlib.Omega.{arith}
 use lib.Dec.{T}
 use lib.ListN.{length, getD, set, take, drop, replicate, length-append}
-use lib.Seq.{getD-set-other, length-take-le}
+use lib.Seq.{getD-set-other}
 use Rattle.algebra.specs.Lists.{All, none, one}
 use Rattle.model.specs.Fields.{largestK}
 use Rattle.model.specs.Steps.{Setting, Row, Deal}
@@ -17,7 +17,7 @@ use Rattle.model.specs.Sheet.{headerOf, settingOf, scriptIn, inputIn, de
 use Rattle.model.specs.Run.{Supply, State, Stop, noRow, check, pay, put, perform, finish, nothingSpent, start, orElse, runLines, written, supplyOf, runScript, sheetScript, stopOf}
 use Rattle.model.specs.Plain.{plainly}
 use Rattle.model.specs.Exactness.{Accepted, Passes, begins, goes, Right, sumOf, Counted, Stops, at-end, at-line, Stopped, Exactly, Exactness}
-use Rattle.model.proofs.Taking.{Seven}
+use Rattle.model.proofs.Written.{length-written}
 use Rattle.model.proofs.Held.{Holds, holds-start, check-passed}
 use Rattle.model.proofs.Running.{Given, finish-holds}
 use Rattle.model.proofs.Acceptance.{sound, given, InRange, lines-ok}
@@ -33,11 +33,6 @@ sum-more : (l : ℕ) (f : Cost → ℕ) (xs : List Line) (x : Line) → sumOf l 
 unfolding sumOf
 sum-more l f [] x = omega arith
 sum-more l f (y ∷ ys) x = rw (sum-more l f ys x) (omega arith)
-
-length-written : (n : ℕ) {xs : List Row} → n ≤ 7 → All Seven xs → length (written n xs) ≡ n * length xs
-unfolding written
-length-written n h none = omega arith
-length-written n h (one {x} {xs} e es) = rw (length-append, length-take-le n x (omega arith), length-written n h es) (omega arith)
 
 module _ {S : Setting} {K : ℕ} {u : Supply} {input : List Row} {d : Deal} (G : Given S K u input d) (xs : List Line) (ok : All (InRange (S .p) K) xs) where
   -- what is known after each finished command

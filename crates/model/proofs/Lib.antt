@@ -23,6 +23,7 @@ pub mod SheetRows
 pub mod SheetDeal
 pub mod Making
 pub mod Acceptance
+pub mod Written
 pub mod Exactness
 pub mod Tied
 pub mod Trees

@@ -59,7 +59,7 @@ module _ (s : List ℕ) (n : ℕ) where
   length-at i zero = refl
   length-at i (suc c) = ap suc (length-at (i + 4 * n) c)
 
-  rows-add : (i a b : ℕ) → rowsAt s n i (a + b) ≡ rowsAt s n i a ++ rowsAt s n (i + 4 * n * a) b
+  pub rows-add : (i a b : ℕ) → rowsAt s n i (a + b) ≡ rowsAt s n i a ++ rowsAt s n (i + 4 * n * a) b
   unfolding rowsAt
   rows-add i zero b = rw (zero-add, mul-zero, add-zero)
   rows-add i (suc a) b =

@@ -1,2 +1,3 @@
 pub mod ByColumn
 pub mod Products
+pub mod Putting
