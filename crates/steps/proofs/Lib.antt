@@ -1,3 +1,5 @@
 pub mod ByColumn
 pub mod Products
+pub mod Comparisons
 pub mod Putting
+pub mod Spelling

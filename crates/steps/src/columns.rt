@@ -42,6 +42,14 @@ pub fn next_share(p: u32, one: bool, bit: u32, lt: u32, q: u32) -> u32
     arithmetic::sub(p, arithmetic::add(p, bit, lt), q)
 }
 
+// The number that bits spell: a bit and twice what the higher bits spell.
+pub fn spelled_share(p: u32, bit: u32, rest: u32) -> u32
+    requires { ⌜ Fields.Modulus p ⌝ }
+    ensures { λ r. ⌜ r ≡ Ring.add p bit (Ring.mul p 2 rest) ⌝ }
+{
+    arithmetic::add(p, bit, arithmetic::mul(p, 2, rest))
+}
+
 // MOD's last line: c0 + f·(c1 − c0) − r mod 2^m + 2^m·u, with the public numbers c0, c1 − c0 and 2^m.
 pub fn unmasked_share(p: u32, c0: u32, step: u32, power: u32, f: u32, low: u32, u: u32) -> u32
     requires { ⌜ Fields.Modulus p ⌝ }
