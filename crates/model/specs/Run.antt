@@ -120,7 +120,8 @@ finish S input c s =
     let r = perform S input c s in
     record { spent = pay (cost (S .l) c) (s .spent); registers = r .registers; deal = r .deal; opened = r .opened; shown = r .shown }
 
--- "Each command gets exactly what the one before it left; a refused one ends the run." Number, place and the state that is left.
+-- "Each command gets exactly what the one before it left; a refused one ends the run." Number, place and the state that is left. The place,
+-- the paper's term, is an offset in the script: of END, of the refused command, or 0.
 pub record Stop : Type 0 where
   pub number : ℕ
   pub place : ℕ
@@ -142,7 +143,8 @@ nothingSpent = record { inputs = 0; masks = 0; triples = 0; openings = 0; reveal
 unfoldable pub start : Deal → State
 start d = record { spent = nothingSpent; registers = replicate 64 noRow; deal = d; opened = []; shown = [] }
 
--- "The answer holds number, place, inputs, masks, triples, openings, the registers and which are set", and both lent buffers.
+-- "The answer holds number, place, inputs, masks, triples, openings, the registers and which are set", and both lent buffers. The paper's
+-- record, the list of opened shares, is called log here: record is a word of this language.
 pub record Outcome : Type 0 where
   pub number : ℕ
   pub place : ℕ

@@ -1,4 +1,5 @@
 -- The paper, "The sheet" and "Refused because of the input": header, rows, the refusals 1 to 8, and a sheet's bytes made of its parts.
+-- A sheet, the paper's term, is the bytes of header, script, input rows and deal.
 -- Assumes nothing.
 use mathlib.Core.Bool.{Bool, true, _&&_}
 use mathlib.Core.List.{List, [], _∷_, _++_}
