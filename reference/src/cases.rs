@@ -101,7 +101,7 @@ fn held(length: u32) -> u32 {
 }
 
 /// The values of a polynomial at 1 to `length`, the constant term being `secret`.
-fn row_of(field: &Field, secret: u32, coefficients: &[u32], length: u32) -> Vec<u32> {
+pub fn row_of(field: &Field, secret: u32, coefficients: &[u32], length: u32) -> Vec<u32> {
     let mut polynomial = vec![u64::from(secret)];
     polynomial.extend(coefficients.iter().map(|&c| u64::from(c)));
     (1..=u64::from(length))

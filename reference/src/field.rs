@@ -38,6 +38,11 @@ impl Field {
             .ok_or(refusal::FIELD)
     }
 
+    /// The number of bits of the modulus.
+    pub fn bits(&self) -> u32 {
+        u32::BITS - self.modulus.leading_zeros()
+    }
+
     pub fn contains(&self, value: u32) -> bool {
         value < self.modulus
     }

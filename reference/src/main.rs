@@ -1,4 +1,4 @@
-//! Computes sharing, recovery and signed coding directly from their definitions,
+//! Computes sharing, recovery, signed coding and the steps directly from their definitions,
 //! so that the answers of another program can be compared with these.
 
 mod case;
@@ -8,6 +8,7 @@ mod line;
 mod refusal;
 mod sharing;
 mod signed;
+mod steps;
 
 use std::io::{self, Read, Write};
 use std::process::ExitCode;
@@ -17,8 +18,11 @@ fn main() -> ExitCode {
     let outcome = match arguments.as_slice() {
         [command] if command == "cases" => write_cases(),
         [command] if command == "answers" => write_answers(),
+        [command] if command == "step-cases" => write_step_cases(),
+        [command] if command == "step-answers" => write_step_answers(),
         _ => {
             eprintln!("usage: reference cases > FILE | reference answers < FILE");
+            eprintln!("       reference step-cases > FILE | reference step-answers > FILE");
             return ExitCode::from(2);
         }
     };
@@ -46,6 +50,24 @@ fn write_answers() -> Result<(), String> {
         .read_to_end(&mut bytes)
         .map_err(|error| format!("cannot read the cases: {error}"))?;
     let lines: String = case::read_all(&bytes)?.iter().map(line::answer).collect();
+    write_out(lines.as_bytes())
+}
+
+fn write_step_cases() -> Result<(), String> {
+    let bytes: Vec<u8> = steps::cases::all()
+        .iter()
+        .flat_map(|case| case.to_bytes())
+        .collect();
+    write_out(&bytes)
+}
+
+/// The answers to the cases that `step-cases` writes.
+fn write_step_answers() -> Result<(), String> {
+    let lines: Option<String> = steps::cases::all()
+        .iter()
+        .map(|case| case.lines())
+        .collect();
+    let lines = lines.ok_or("a case's deal is not what its step takes")?;
     write_out(lines.as_bytes())
 }
 

@@ -88,6 +88,11 @@ fn polynomial_of(
     Ok((narrow(polynomial[0]), coefficients))
 }
 
+/// The value at 0 of the polynomial that the first t + 1 shares lie on.
+pub fn secret(field: &Field, threshold: usize, row: &[u64]) -> u64 {
+    interpolate(field, &row[..=threshold])[0]
+}
+
 /// The polynomial of lowest degree that takes `shares[j - 1]` at j, the constant term first.
 fn interpolate(field: &Field, shares: &[u64]) -> Vec<u64> {
     let mut polynomial = vec![0; shares.len()];
