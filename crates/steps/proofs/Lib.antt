@@ -3,3 +3,4 @@ pub mod Products
 pub mod Comparisons
 pub mod Putting
 pub mod Spelling
+pub mod Maskings
