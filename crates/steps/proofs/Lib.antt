@@ -4,3 +4,4 @@ pub mod Comparisons
 pub mod Putting
 pub mod Spelling
 pub mod Maskings
+pub mod Following
