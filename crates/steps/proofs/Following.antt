@@ -81,3 +81,35 @@ module _ (p l n t m c c0 c1 : ℕ) (bits s : List ℕ) (i from done next then : 
       let len : length (written n (F .opened) ++ written n (U .opened)) ≡ then = rw length-append (omega (arith, wf, wu, edone, ethen)) in
       let all = over-then part₀ (written n (F .opened) ++ written n (U .opened)) _ part₂ last₃ then (e2 ∙ two) len (g .1) in
       (a .0, b .0, g .0, all ∙ ap (λ (v : List ℕ). over v part₀) (append-assoc (written n (F .opened)) (written n (U .opened)) _))
+
+-- what three of them ensure, of all bits and the low ones
+abbrev pub Ensured3 : (p l n t m c c0 c1 : ℕ) (bits low : List Row) (s : List ℕ) (i : ℕ) (f u0 u1 : Row) (before after : List ℕ) → Type 0
+Ensured3 p l n t m c c0 c1 bits low s i f u0 u1 before after =
+    (count : ℕ) (d : Deal) → d .triples ≡ triplesFrom s n i count → l + 2 * m ≤ count + 3
+    → let x = three (setting p l n t) c c0 c1 bits low d in
+    (f ≡ x .f .left) × (u0 ≡ x .u0 .left) × (u1 ≡ x .u1 .left) × (after ≡ over (threeWritten n x) before)
+
+pub three-of : (p l n t m c c0 c1 : ℕ) (s : List ℕ) (i : ℕ) (f u0 u1 : Row) (before after : List ℕ) {bits low bits′ low′ : List Row} → bits ≡ bits′ → low ≡ low′
+    → Ensured3 p l n t m c c0 c1 bits low s i f u0 u1 before after → Ensured3 p l n t m c c0 c1 bits′ low′ s i f u0 u1 before after
+three-of p l n t m c c0 c1 s i f u0 u1 before after eb el x = λ count d e k. rw (← eb, ← el) (x count d e k)
+
+module _ (p l n t m c c0 c1 : ℕ) (bits low : List Row) (d : Deal) (h : n ≤ 7) (all : length bits ≡ l) (some : length low ≡ m) where
+  -- the triples that they leave, and how much they write
+  pub three-triples : (s : List ℕ) (i count : ℕ) → 1 ≤ m → m ≤ l → d .triples ≡ triplesFrom s n i count → l + 2 * m ≤ count + 2
+      → three (setting p l n t) c c0 c1 bits low d .u1 .deal .triples
+      ≡ triplesFrom s n (i + (l - 1) * (12 * n) + (m - 1) * (12 * n) + (m - 1) * (12 * n)) (suc (count + 2 - (l + 2 * m)))
+  three-triples s i count one high e k =
+      let x = three (setting p l n t) c c0 c1 bits low d in
+      let a = comparison-triples p l n t c l bits d h all s i count e (omega arith) in
+      let b = comparison-triples p l n t c0 m low (x .f .deal) h some s _ _ a (omega arith) in
+      let g = comparison-triples p l n t c1 m low (x .u0 .deal) h some s _ _ b (omega arith) in
+      let z : count - (l - 1) - (m - 1) - (m - 1) ≡ suc (count + 2 - (l + 2 * m)) = omega arith in
+      g ∙ rw z
+
+  pub three-writes : length (threeWritten n (three (setting p l n t) c c0 c1 bits low d)) ≡ (l - 1) * (n + n) + (m - 1) * (n + n) + (m - 1) * (n + n)
+  three-writes =
+      let x = three (setting p l n t) c c0 c1 bits low d in
+      let a = comparison-writes p l n t c l bits d h all in
+      let b = comparison-writes p l n t c0 m low (x .f .deal) h some in
+      let g = comparison-writes p l n t c1 m low (x .u0 .deal) h some in
+      rw (length-append, length-append) (omega (arith, a, b, g))

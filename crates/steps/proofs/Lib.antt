@@ -5,3 +5,4 @@ pub mod Putting
 pub mod Spelling
 pub mod Maskings
 pub mod Following
+pub mod Cells

@@ -10,6 +10,7 @@ ghost use Rattle.model.specs.Steps as Steps;
 ghost use Rattle.steps.specs.Settings.{setting};
 ghost use Rattle.steps.specs.Threes.{Three, three, threeWritten};
 use crate::comparison;
+use crate::masks;
 use sharing::rows::Row;
 
 pub struct Compared {
@@ -45,4 +46,27 @@ pub fn compare_cells(
     let then = done + (m - 1) * (n + n);
     let u1 = comparison::comparison(p, n, t, c1, m, bits, s, next, &mut part[then..]);
     Compared { f, u0, u1 }
+}
+
+// The three comparisons with a mask's bits, whose l rows stand from place mask of the sheet's bytes on.
+pub fn compare(
+    p: u32,
+    l: usize,
+    n: usize,
+    t: usize,
+    m: usize,
+    c: u32,
+    c0: u32,
+    c1: u32,
+    s: &[u8],
+    mask: usize,
+    i: usize,
+    part: &mut [u32],
+) -> Compared
+    requires { ⌜ Fields.Modulus p × (n ≤ 7) × (t ≤ 3) × (1 ≤ m) × (m ≤ l) × (l ≤ 31) × (mask + l * (4 * n) ≤ length (now s)) × (i + (l - 1) * (12 * n) + (m - 1) * (12 * n) + (m - 1) * (12 * n) ≤ length (now s)) × ((l - 1) * (n + n) + (m - 1) * (n + n) + (m - 1) * (n + n) ≤ length (now part)) ⌝ }
+    ensures { λ r. ⌜ ((count : ℕ) (d : Steps.Deal) → d .triples ≡ Sheet.triplesFrom (now (s .entry)) n i count → l + 2 * m ≤ count + 3 → let x = three (setting p l n t) c c0 c1 (Sheet.rowsAt (now (s .entry)) n mask l) (Sheet.rowsAt (now (s .entry)) n mask m) d in (r .f .shares ≡ x .f .left) × (r .u0 .shares ≡ x .u0 .left) × (r .u1 .shares ≡ x .u1 .left) × (now (part .exit) ≡ Lists.over (threeWritten n x) (now (part .entry)))) ⌝ }
+{
+    let mut cells = [0u32; 217];
+    masks::put_rows(s, n, mask, l, &mut cells[..]);
+    compare_cells(p, l, n, t, m, c, c0, c1, &cells[..], s, i, part)
 }
