@@ -6,3 +6,4 @@ pub mod Spelling
 pub mod Maskings
 pub mod Following
 pub mod Cells
+pub mod Endings

@@ -1,13 +1,18 @@
 // MOD over rows: the masked row that it opens, and its last line.
 ghost use mathlib.Core.Path.{_≡_};
-ghost use Prim.Native.Nat.{ℕ, _+_, _-_, _*_, _%_, _^_, _≤_, _<_};
+ghost use Prim.Native.Nat.{ℕ, suc, _+_, _-_, _*_, _%_, _^_, _≤_, _<_};
 ghost use lib.ListN.{length};
 ghost use Rattle.algebra.specs.Ring as Ring;
+ghost use Rattle.algebra.specs.Lists as Lists;
 ghost use Rattle.model.specs.Fields as Fields;
 ghost use Rattle.model.specs.Sheet as Sheet;
 ghost use Rattle.model.specs.Steps as Steps;
+ghost use Rattle.model.specs.Run.{written};
 ghost use Rattle.steps.specs.Settings.{setting};
 use crate::columns;
+use crate::compared;
+use crate::compared::Compared;
+use crate::product;
 use crate::spelled;
 use field::arithmetic;
 use sharing::rows;
@@ -53,4 +58,52 @@ pub fn unmasked_row(
         j += 1;
     }
     Row { shares }
+}
+
+// MOD's public numbers: 2^m, C mod 2^m, (C + p) mod 2^m, and the second less the first modulo p.
+pub struct Publics {
+    pub power: u32,
+    pub c0: u32,
+    pub c1: u32,
+    pub step: u32,
+}
+
+pub fn public_numbers(p: u32, m: u32, c: u32) -> Publics
+    requires { ⌜ Fields.Modulus p × (m < 30) × (2 ^ m < p) × (c < p) ⌝ }
+    ensures { λ r. ⌜ (r .power ≡ 2 ^ m) × (r .c0 ≡ c % 2 ^ m) × (r .c1 ≡ (c + p) % 2 ^ m) × (r .step ≡ Ring.sub p ((c + p) % 2 ^ m) (c % 2 ^ m)) ⌝ }
+{
+    let power = arithmetic::power_of_two(p, m);
+    let c0 = c % power;
+    let c1 = (c + p) % power;
+    let step = arithmetic::sub(p, c1, c0);
+    Publics {
+        power,
+        c0,
+        c1,
+        step,
+    }
+}
+
+// "g = f times (u1 − u0) by MUL; u = u0 + g", and the last line. The mask's rows stand from place mask of the sheet's bytes on, the triple at
+// place i.
+pub fn finish(
+    p: u32,
+    n: usize,
+    t: usize,
+    m: usize,
+    x: Publics,
+    y: Compared,
+    s: &[u8],
+    mask: usize,
+    i: usize,
+    part: &mut [u32],
+) -> Row
+    requires { ⌜ Fields.Modulus p × (n ≤ 7) × (t ≤ 3) × (mask + m * (4 * n) ≤ length (now s)) × (i + 12 * n ≤ length (now s)) × (n + n ≤ length (now part)) ⌝ }
+    ensures { λ r. ⌜ ((l count : ℕ) (d : Steps.Deal) → d .triples ≡ Sheet.triplesFrom (now (s .entry)) n i (suc count) → let S = setting p l n t in let g = Steps.product S (y .f .shares) (Steps.minus S (y .u1 .shares) (y .u0 .shares)) d in (r .shares ≡ Steps.plus S (Steps.minus S (Steps.plus S (Steps.constant S (x .c0)) (Steps.times S (x .step) (y .f .shares))) (Steps.spelled S (Sheet.rowsAt (now (s .entry)) n mask m))) (Steps.times S (x .power) (Steps.plus S (y .u0 .shares) (g .left)))) × (now (part .exit) ≡ Lists.over (written n (g .opened)) (now (part .entry)))) ⌝ }
+{
+    let difference = rows::sub_rows(p, n, y.u1, y.u0);
+    let g = product::product(p, n, t, y.f, difference, s, i, part);
+    let u = rows::add_rows(p, n, y.u0, g);
+    let low = spelled::spelled_row(p, n, s, mask, m);
+    unmasked_row(p, n, x.c0, x.step, x.power, y.f, low, u)
 }
