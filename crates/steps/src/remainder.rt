@@ -1,5 +1,6 @@
 // MOD over rows: the masked row that it opens, and its last line.
 ghost use mathlib.Core.Path.{_≡_};
+ghost use mathlib.Core.List.{_++_};
 ghost use Prim.Native.Nat.{ℕ, suc, _+_, _-_, _*_, _%_, _^_, _≤_, _<_};
 ghost use lib.ListN.{length};
 ghost use Rattle.algebra.specs.Ring as Ring;
@@ -9,6 +10,7 @@ ghost use Rattle.model.specs.Sheet as Sheet;
 ghost use Rattle.model.specs.Steps as Steps;
 ghost use Rattle.model.specs.Run.{written};
 ghost use Rattle.steps.specs.Settings.{setting};
+ghost use Rattle.steps.specs.Threes.{three, threeWritten};
 use crate::columns;
 use crate::compared;
 use crate::compared::Compared;
@@ -106,4 +108,28 @@ pub fn finish(
     let u = rows::add_rows(p, n, y.u0, g);
     let low = spelled::spelled_row(p, n, s, mask, m);
     unmasked_row(p, n, x.c0, x.step, x.power, y.f, low, u)
+}
+
+// MOD from C on, which was opened: the comparisons, the product and the last line.
+pub fn from_opened(
+    p: u32,
+    l: usize,
+    n: usize,
+    t: usize,
+    m: u32,
+    c: u32,
+    s: &[u8],
+    mask: usize,
+    i: usize,
+    part: &mut [u32],
+) -> Row
+    requires { ⌜ Fields.Modulus p × (n ≤ 7) × (t ≤ 3) × (1 ≤ m) × (m ≤ l) × (l ≤ 31) × (m < 30) × (2 ^ m < p) × (c < p) × (mask + l * (4 * n) ≤ length (now s)) × (mask + m * (4 * n) ≤ length (now s)) × (i + (l - 1) * (12 * n) + (m - 1) * (12 * n) + (m - 1) * (12 * n) + 12 * n ≤ length (now s)) × ((l - 1) * (n + n) + (m - 1) * (n + n) + (m - 1) * (n + n) + (n + n) ≤ length (now part)) ⌝ }
+    ensures { λ r. ⌜ ((count : ℕ) (d : Steps.Deal) → d .triples ≡ Sheet.triplesFrom (now (s .entry)) n i count → l + 2 * m ≤ count + 2 → let S = setting p l n t in let bits = Sheet.rowsAt (now (s .entry)) n mask l in let x = three S c (c % 2 ^ m) ((c + p) % 2 ^ m) bits (Sheet.rowsAt (now (s .entry)) n mask m) d in let g = Steps.product S (x .f .left) (Steps.minus S (x .u1 .left) (x .u0 .left)) (x .u1 .deal) in (r .shares ≡ Steps.unmasked S m c bits (x .f .left) (Steps.plus S (x .u0 .left) (g .left))) × (now (part .exit) ≡ Lists.over (threeWritten n x ++ written n (g .opened)) (now (part .entry)))) ⌝ }
+{
+    let w = m as usize;
+    let x = public_numbers(p, m, c);
+    let y = compared::compare(p, l, n, t, w, c, x.c0, x.c1, s, mask, i, part);
+    let from = i + (l - 1) * (12 * n) + (w - 1) * (12 * n) + (w - 1) * (12 * n);
+    let done = (l - 1) * (n + n) + (w - 1) * (n + n) + (w - 1) * (n + n);
+    finish(p, n, t, w, x, y, s, mask, from, &mut part[done..])
 }
