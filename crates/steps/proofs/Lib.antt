@@ -7,3 +7,4 @@ pub mod Maskings
 pub mod Following
 pub mod Cells
 pub mod Endings
+pub mod Remainders

@@ -133,3 +133,26 @@ pub fn from_opened(
     let done = (l - 1) * (n + n) + (w - 1) * (n + n) + (w - 1) * (n + n);
     finish(p, n, t, w, x, y, s, mask, from, &mut part[done..])
 }
+
+// MOD: the mask's l rows stand from place mask of the sheet's bytes on, the l + 2m − 2 triples from place i on, and 1 + 2(l + 2m − 2) openings
+// go to the start of the part.
+pub fn remainder(
+    p: u32,
+    l: usize,
+    n: usize,
+    t: usize,
+    k: u32,
+    m: u32,
+    a: Row,
+    s: &[u8],
+    mask: usize,
+    i: usize,
+    part: &mut [u32],
+) -> Row
+    requires { ⌜ Fields.Modulus p × (n ≤ 7) × (t ≤ 3) × (1 ≤ m) × (m < k) × (k ≤ 30) × (2 ^ k < p) × (m ≤ l) × (l ≤ 31) × (mask + l * (4 * n) ≤ length (now s)) × (i + (l + 2 * m - 2) * (12 * n) ≤ length (now s)) × (n + (l + 2 * m - 2) * (n + n) ≤ length (now part)) ⌝ }
+    ensures { λ r. ⌜ ((count : ℕ) (d : Steps.Deal) → Steps.nextMask (setting p l n t) d ≡ Sheet.rowsAt (now (s .entry)) n mask l → d .triples ≡ Sheet.triplesFrom (now (s .entry)) n i count → l + 2 * m ≤ count + 2 → (r .shares ≡ Steps.remainder (setting p l n t) k m (a .shares) d .left) × (now (part .exit) ≡ Lists.over (written n (Steps.remainder (setting p l n t) k m (a .shares) d .opened)) (now (part .entry)))) ⌝ }
+{
+    let masked = masked_row(p, l, n, k, a, s, mask);
+    let c = product::open_row(p, n, t, masked, part);
+    from_opened(p, l, n, t, m, c, s, mask, i, &mut part[n..])
+}
