@@ -8,3 +8,4 @@ pub mod Following
 pub mod Cells
 pub mod Endings
 pub mod Remainders
+pub mod Quotients
