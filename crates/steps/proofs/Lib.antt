@@ -3,3 +3,9 @@ pub mod Products
 pub mod Comparisons
 pub mod Putting
 pub mod Spelling
+pub mod Maskings
+pub mod Following
+pub mod Cells
+pub mod Endings
+pub mod Remainders
+pub mod Quotients

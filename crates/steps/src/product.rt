@@ -19,7 +19,7 @@ use sharing::secret;
 // "Opening: the n shares go to the record, party 1 first, and the value at 0 becomes public." The part starts at the record's next free place.
 pub fn open_row(p: u32, n: usize, t: usize, row: Row, part: &mut [u32]) -> u32
     requires { ⌜ Fields.Modulus p × (n ≤ 7) × (t ≤ 3) × (n ≤ length (now part)) ⌝ }
-    ensures { λ r. ⌜ (r ≡ Sharing.secret p t (row .shares)) × (now (part .exit) ≡ Lists.over (take n (row .shares)) (now (part .entry))) ⌝ }
+    ensures { λ r. ⌜ (r ≡ Sharing.secret p t (row .shares)) × (now (part .exit) ≡ Lists.over (take n (row .shares)) (now (part .entry))) × (r < p) ⌝ }
 {
     rows::put_shares(part, row, n);
     secret::secret_of(p, t, row)
