@@ -1,15 +1,14 @@
 -- A mask's rows, put as cells and read back: all of them, and the low ones.
 -- Assumes nothing.
-use mathlib.Core.Path.{_≡_, refl, sym, ap, _∙_}
-use mathlib.Core.List.{List, [], _∷_}
+use mathlib.Core.Path.{_≡_, refl, ap, _∙_}
+use mathlib.Core.List.{List}
 use Prim.Native.Nat.{ℕ, zero, suc, _+_, _*_, _≤_}
 use native.Mathlib.Omega.{arith}
 use lib.ListN.{length, take, drop}
 use Rattle.algebra.specs.Lists.{over}
-use Rattle.model.specs.Bytes.{rowAt, sevens}
+use Rattle.model.specs.Bytes.{sevens}
 use Rattle.model.specs.Run.{written}
 use Rattle.model.specs.Sheet.{rowsAt}
-use Rattle.model.specs.Steps.{Row}
 use Rattle.model.proofs.Written.{sevens-written}
 use Rattle.steps.proofs.Putting.{seven-rows, length-rows}
 

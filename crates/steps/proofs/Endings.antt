@@ -1,12 +1,12 @@
 -- MOD's public numbers and its last lines, as the code has them.
 -- Assumes nothing.
-use mathlib.Core.Path.{_≡_, refl, sym, ap, _∙_}
+use mathlib.Core.Path.{_≡_, sym, _∙_}
 use mathlib.Core.List.{List, _++_}
 use Prim.Native.Nat.{ℕ, suc, _+_, _-_, _*_, _%_, _^_, _≤_, _<_}
 use native.Mathlib.Nat.{mod-eq-of-lt}
 use native.Mathlib.Omega.{arith}
 use borrow.Rule.Slice.PartMut.{putMid, midOf}
-use lib.ListN.{length, take}
+use lib.ListN.{length}
 use lib.Pow.{pow-pos}
 use Rattle.algebra.specs.Ring.{add, sub}
 use Rattle.algebra.specs.Lists.{over}

@@ -1,18 +1,17 @@
 -- What a comparison leaves of the triples, how much it writes, and three of them one after the other.
 -- Assumes nothing.
 use mathlib.Core.Path.{_≡_, refl, sym, ap, _∙_}
-use mathlib.Core.List.{List, [], _∷_, _++_, append-assoc}
-use Prim.Native.Nat.{ℕ, zero, suc, _+_, _-_, _*_, _≤_, _<_}
+use mathlib.Core.List.{List, _++_, append-assoc}
+use Prim.Native.Nat.{ℕ, zero, suc, _+_, _-_, _*_, _≤_}
 use native.Mathlib.Omega.{arith}
 use borrow.Rule.Slice.PartMut.{putMid, midOf}
-use lib.ListN.{length, take, drop, length-append}
-use lib.Seq.{drop-drop}
+use lib.ListN.{length, drop, length-append}
 use Rattle.algebra.specs.Lists.{over}
-use Rattle.algebra.proofs.Lists.{over-then, length-over}
+use Rattle.algebra.proofs.Lists.{over-then}
 use Rattle.model.specs.Bytes.{sevens}
 use Rattle.model.specs.Run.{written}
 use Rattle.model.specs.Sheet.{triplesFrom}
-use Rattle.model.specs.Steps.{Setting, Row, Deal, Step, comparison, product}
+use Rattle.model.specs.Steps.{Row, Deal, comparison}
 use Rattle.model.proofs.Taking.{took-comparison}
 use Rattle.model.proofs.Written.{length-written}
 use Rattle.steps.specs.Settings.{setting}

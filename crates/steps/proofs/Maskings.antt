@@ -1,8 +1,8 @@
 -- The row that MOD opens, as the code adds it up.
 -- Assumes nothing.
-use mathlib.Core.Path.{_≡_, refl, sym, ap, _∙_}
+use mathlib.Core.Path.{_≡_}
 use mathlib.Core.List.{List}
-use Prim.Native.Nat.{ℕ, _-_, _%_, _^_, _<_}
+use Prim.Native.Nat.{ℕ, _-_, _^_, _<_}
 use native.Mathlib.Nat.{mod-eq-of-lt}
 use Rattle.algebra.specs.Ring.{add}
 use Rattle.algebra.specs.Rows.{row, on}

@@ -1,13 +1,13 @@
 -- TRUNC, LTZ, OVER and BLOCKS as the code has them: MOD's openings, and a last line over its row.
 -- Assumes nothing.
-use mathlib.Core.Path.{_≡_, refl, sym, ap, _∙_}
+use mathlib.Core.Path.{_≡_, _∙_}
 use mathlib.Core.List.{List}
 use Prim.Native.Nat.{ℕ, _-_}
 use Rattle.algebra.specs.Lists as Lists
 use Rattle.algebra.specs.Ring.{sub}
 use Rattle.algebra.specs.Rows.{row, on}
 use Rattle.model.specs.Run.{written}
-use Rattle.model.specs.Steps.{Setting, Row, Deal, minus, constant, quotient, remainder, floor, sign, over, blocks}
+use Rattle.model.specs.Steps.{Row, Deal, minus, constant, quotient, remainder, floor, sign, over, blocks}
 use Rattle.steps.specs.Settings.{setting}
 
 module _ (p l n t k : ℕ) (a : Row) (d : Deal) (before after : List ℕ) {r : Row} where

@@ -1,6 +1,6 @@
 // MOD's three comparisons.
 ghost use mathlib.Core.Path.{_≡_};
-ghost use Prim.Native.Nat.{ℕ, suc, _+_, _-_, _*_, _≤_, _<_};
+ghost use Prim.Native.Nat.{ℕ, _+_, _-_, _*_, _≤_};
 ghost use lib.ListN.{length};
 ghost use Rattle.algebra.specs.Lists as Lists;
 ghost use Rattle.model.specs.Bytes as Bytes;
@@ -8,7 +8,7 @@ ghost use Rattle.model.specs.Fields as Fields;
 ghost use Rattle.model.specs.Sheet as Sheet;
 ghost use Rattle.model.specs.Steps as Steps;
 ghost use Rattle.steps.specs.Settings.{setting};
-ghost use Rattle.steps.specs.Threes.{Three, three, threeWritten};
+ghost use Rattle.steps.specs.Threes.{three, threeWritten};
 use crate::comparison;
 use crate::masks;
 use sharing::rows::Row;
