@@ -17,7 +17,7 @@ pub record Framed (s : List ℕ) (f : Frame) : Type 0 where
   pub listed : headerOf s .field < 4
   pub p-is : f .p ≡ modulus (headerOf s .field)
   pub l-is : f .l ≡ bits (headerOf s .field)
-  pub k-is : f .largest-k ≡ largestK (headerOf s .field)
+  pub k-is : f .largest ≡ largestK (headerOf s .field)
   pub n-is : f .n ≡ headerOf s .n
   pub t-is : f .t ≡ headerOf s .t
   pub inputs-is : f .inputs ≡ headerOf s .inputs
@@ -31,7 +31,7 @@ pub record Framed (s : List ℕ) (f : Frame) : Type 0 where
   pub triples-most : f .triples ≤ 512
   pub script-most : f .script ≤ 1024
   -- the places
-  pub inputs-place : f .inputs-at ≡ 11 + f .script
-  pub masks-place : f .masks-at ≡ f .inputs-at + 4 * f .n * f .inputs
-  pub triples-place : f .triples-at ≡ f .masks-at + 4 * f .n * f .l * f .masks
-  pub whole : length s ≡ f .triples-at + 4 * f .n * 3 * f .triples
+  pub inputs-place : f .input ≡ 11 + f .script
+  pub masks-place : f .mask ≡ f .input + 4 * f .n * f .inputs
+  pub triples-place : f .triple ≡ f .mask + 4 * f .n * f .l * f .masks
+  pub whole : length s ≡ f .triple + 4 * f .n * 3 * f .triples
