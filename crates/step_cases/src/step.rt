@@ -13,7 +13,7 @@ use steps::comparison;
 use steps::masks;
 use steps::product;
 
-// Answers the case's bytes, and 0 where they are not all there.
+// Answers how many bytes the case has, and 0 where they are not all there.
 pub fn run_case(s: &[u8]) -> usize
     ensures { λ r. ⌜ r ≤ length (now (s .entry)) ⌝ }
 {
@@ -26,7 +26,8 @@ pub fn run_case(s: &[u8]) -> usize
     run_rows(s, field, n, t)
 }
 
-// The operands' rows stand from byte 40 on, then those of the masks, then the triples.
+// The operands' rows stand from byte 40 on, then those of the masks, then the triples. The counts are held to the most that a step takes, so that
+// the places fit.
 fn run_rows(s: &[u8], field: usize, n: usize, t: usize) -> usize
     requires { ⌜ (40 ≤ length (now s)) × (field < 4) × (n ≤ 7) × (t ≤ 3) ⌝ }
     ensures { λ r. ⌜ r ≤ length (now (s .entry)) ⌝ }
