@@ -1,0 +1,4 @@
+pub mod Decoding
+pub mod Scripts
+pub mod InRange
+pub mod Checking
