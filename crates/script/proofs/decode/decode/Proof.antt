@@ -1,59 +1,43 @@
+-- `decode` meets its contract: each return is a law of its own.
+-- Assumes nothing.
 use borrow.Author.Needs.{needs}
 use Rattle.script.proofs.Decoding.{reads-missing, reads-unknown, reads-cut, reads-out, reads-in, fits}
 use Rattle.script.proofs.decode.decode.Statement.{statement}
 use Rattle.script.proofs.decode.decode.Tie as tie
-use Rattle.script.proofs.decode.decode.Reads as reads
-use Rattle.script.proofs.decode.decode.Lts as lts
-use Rattle.script.proofs.decode.size_of.Reads as size-of-reads
-use Rattle.script.proofs.operands.command_at.Reads as command-at-reads
-use Rattle.script.proofs.operands.index.Reads as index-reads
-use Rattle.script.proofs.ranges.in_range.Reads as in-range-reads
 
--- src/decode.rt:28:9
 returns : tie.Need-returns
 returns c = reads-missing _ _ _ _ (c .if1 .taken)
 
--- src/decode.rt:30:30
 shared-slice-read-index : tie.Need-shared-slice-read-index
 shared-slice-read-index c = search needs
 
--- src/decode.rt:30:9
 index-requires : tie.Need-index-requires
 index-requires c κs = search needs
 
--- src/decode.rt:32:9
 returns-2 : tie.Need-returns-2
 returns-2 c = reads-unknown _ _ _ _ (c .before .before .before .if1 .left) (c .before .index .ensures) (c .if2 .taken)
 
--- src/decode.rt:34:9
 size-of-requires : tie.Need-size-of-requires
 size-of-requires c κs = search needs
 
--- src/decode.rt:35:8
 sub-if3 : tie.Need-sub-if3
 sub-if3 c = search needs
 
--- src/decode.rt:36:9
 returns-3 : tie.Need-returns-3
 returns-3 c = reads-cut _ _ _ _ (c .before .before .before .before .before .if1 .left) (c .before .before .before .index .ensures) (c .before .before .if2 .left) (c .before .size-of .ensures) (c .if3 .taken)
 
--- src/decode.rt:38:9
 command-at-requires : tie.Need-command-at-requires
 command-at-requires c κs = (c .before .before .before .index .ensures, c .before .before .if2 .left, fits _ _ (c .before .before .before .index .ensures) (c .before .size-of .ensures) (c .before .before .before .before .before .if1 .left) (c .if3 .left))
 
--- src/decode.rt:39:8
 in-range-requires : tie.Need-in-range-requires
 in-range-requires c κs = search needs
 
--- src/decode.rt:40:29
 add-t15 : tie.Need-add-t15
 add-t15 c = search needs
 
--- src/decode.rt:24:1
 returns-4 : tie.Need-returns-4
 returns-4 c = reads-in _ _ _ _ (c .before .before .before .before .before .before .before .before .if1 .left) (c .before .before .before .before .before .before .index .ensures) (c .before .before .before .before .before .if2 .left) (c .before .before .before .before .size-of .ensures) (c .before .before .before .if3 .left) (c .before .before .command-at .ensures) (c .before .in-range .ensures) (c .if4 .taken)
 
--- src/decode.rt:24:1
 returns-5 : tie.Need-returns-5
 returns-5 c = reads-out _ _ _ _ (c .before .before .before .before .before .before .before .before .if1 .left) (c .before .before .before .before .before .before .index .ensures) (c .before .before .before .before .before .if2 .left) (c .before .before .before .before .size-of .ensures) (c .before .before .before .if3 .left) (c .before .before .command-at .ensures) (c .before .in-range .ensures) (c .if4 .left)
 

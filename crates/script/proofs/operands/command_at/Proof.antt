@@ -1,51 +1,38 @@
+-- `command_at` meets its contract: by its byte the command is that of the table, and its bytes stand within the script.
+-- Assumes nothing.
 use borrow.Author.Needs.{needs}
 use native.Mathlib.Omega.{arith}
 use Rattle.script.proofs.Decoding.{room, room-long, command-at-byte}
 use Rattle.script.proofs.operands.command_at.Statement.{statement}
 use Rattle.script.proofs.operands.command_at.Tie as tie
-use Rattle.script.proofs.operands.command_at.Reads as reads
-use Rattle.script.proofs.operands.command_at.Lts as lts
-use Rattle.script.proofs.operands.on_register.Reads as on-register-reads
-use Rattle.script.proofs.operands.register.Reads as register-reads
-use Rattle.script.proofs.operands.value.Reads as value-reads
 
--- src/operands.rt:54:16
 register-requires : tie.Need-register-requires
 register-requires c κs = omega (arith, room _ _ 1 2 tt (c .before .before .pre .0) (c .match .keys2) (c .before .before .pre .2))
 
--- src/operands.rt:57:16
 register-requires-2 : tie.Need-register-requires-2
 register-requires-2 c κs = omega (arith, room _ _ 2 6 tt (c .before .before .pre .0) (c .match .keys3) (c .before .before .pre .2))
 
--- src/operands.rt:58:16
 value-requires : tie.Need-value-requires
 value-requires c κs = omega (arith, room _ _ 2 6 tt (c .before .before .before .pre .0) (c .before .match .keys3) (c .before .before .before .pre .2))
 
--- src/operands.rt:61:16
 register-requires-3 : tie.Need-register-requires-3
 register-requires-3 c κs = omega (arith, room _ _ 12 2 tt (c .before .before .pre .0) (c .match .keys4) (c .before .before .pre .2))
 
--- src/operands.rt:63:14
 on-register-requires : tie.Need-on-register-requires
 on-register-requires c κs = search needs
 
--- src/operands.rt:47:1
 returns : tie.Need-returns
 returns c = cc (command-at-byte _ _ 0 (c .before .before .pre .0) (c .match .keys1))
 
--- src/operands.rt:47:1
 returns-2 : tie.Need-returns-2
 returns-2 c = cc (command-at-byte _ _ 1 (c .before .before .before .pre .0) (c .before .match .keys2))
 
--- src/operands.rt:47:1
 returns-3 : tie.Need-returns-3
 returns-3 c = cc (command-at-byte _ _ 2 (c .before .before .before .before .pre .0) (c .before .before .match .keys3))
 
--- src/operands.rt:47:1
 returns-4 : tie.Need-returns-4
 returns-4 c = cc (command-at-byte _ _ 12 (c .before .before .before .pre .0) (c .before .match .keys4))
 
--- src/operands.rt:47:1
 returns-5 : tie.Need-returns-5
 returns-5 c = search needs
 

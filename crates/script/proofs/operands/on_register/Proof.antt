@@ -1,71 +1,53 @@
+-- `on_register` meets its contract: by its byte the command is that of the table, and its bytes stand within the script.
+-- Assumes nothing.
 use borrow.Author.Needs.{needs}
 use native.Mathlib.Omega.{arith}
 use Rattle.script.proofs.Decoding.{room, room-long, command-at-byte}
 use Rattle.script.proofs.operands.on_register.Statement.{statement}
 use Rattle.script.proofs.operands.on_register.Tie as tie
-use Rattle.script.proofs.operands.on_register.Reads as reads
-use Rattle.script.proofs.operands.on_register.Lts as lts
-use Rattle.script.proofs.operands.register.Reads as register-reads
-use Rattle.script.proofs.operands.value.Reads as value-reads
-use Rattle.script.proofs.operands.with_k.Reads as with-k-reads
 
--- src/operands.rt:73:9
 register-requires : tie.Need-register-requires
 register-requires c κs = omega (arith, room-long _ _ (c .before .pre .0 .0) (c .before .pre .0 .1) (c .before .pre .0 .2) (c .before .pre .0 .3) (c .before .pre .1))
 
--- src/operands.rt:74:9
 register-requires-2 : tie.Need-register-requires-2
 register-requires-2 c κs = omega (arith, room-long _ _ (c .before .before .pre .0 .0) (c .before .before .pre .0 .1) (c .before .before .pre .0 .2) (c .before .before .pre .0 .3) (c .before .before .pre .1))
 
--- src/operands.rt:79:16
 register-requires-3 : tie.Need-register-requires-3
 register-requires-3 c κs = omega (arith, room _ _ 3 4 tt (c .before .before .before .before .pre .0 .0) (c .match .keys1) (c .before .before .before .before .pre .1))
 
--- src/operands.rt:84:16
 register-requires-4 : tie.Need-register-requires-4
 register-requires-4 c κs = omega (arith, room _ _ 4 4 tt (c .before .before .before .before .pre .0 .0) (c .match .keys2) (c .before .before .before .before .pre .1))
 
--- src/operands.rt:89:16
 value-requires : tie.Need-value-requires
 value-requires c κs = omega (arith, room _ _ 5 7 tt (c .before .before .before .before .pre .0 .0) (c .match .keys3) (c .before .before .before .before .pre .1))
 
--- src/operands.rt:94:16
 register-requires-5 : tie.Need-register-requires-5
 register-requires-5 c κs = omega (arith, room _ _ 6 4 tt (c .before .before .before .before .pre .0 .0) (c .match .keys4) (c .before .before .before .before .pre .1))
 
--- src/operands.rt:99:16
 register-requires-6 : tie.Need-register-requires-6
 register-requires-6 c κs = omega (arith, room _ _ 13 8 tt (c .before .before .before .before .pre .0 .0) (c .match .keys5) (c .before .before .before .before .pre .1))
 
--- src/operands.rt:100:16
 value-requires-2 : tie.Need-value-requires-2
 value-requires-2 c κs = omega (arith, room _ _ 13 8 tt (c .before .before .before .before .before .pre .0 .0) (c .before .match .keys5) (c .before .before .before .before .before .pre .1))
 
--- src/operands.rt:102:14
 with-k-requires : tie.Need-with-k-requires
 with-k-requires c κs = search needs
 
--- src/operands.rt:68:1
 returns : tie.Need-returns
 returns c = cc (command-at-byte _ _ 3 (c .before .before .before .before .before .pre .0 .0) (c .before .match .keys1))
 
--- src/operands.rt:68:1
 returns-2 : tie.Need-returns-2
 returns-2 c = cc (command-at-byte _ _ 4 (c .before .before .before .before .before .pre .0 .0) (c .before .match .keys2))
 
--- src/operands.rt:68:1
 returns-3 : tie.Need-returns-3
 returns-3 c = cc (command-at-byte _ _ 5 (c .before .before .before .before .before .pre .0 .0) (c .before .match .keys3))
 
--- src/operands.rt:68:1
 returns-4 : tie.Need-returns-4
 returns-4 c = cc (command-at-byte _ _ 6 (c .before .before .before .before .before .pre .0 .0) (c .before .match .keys4))
 
--- src/operands.rt:68:1
 returns-5 : tie.Need-returns-5
 returns-5 c = cc (command-at-byte _ _ 13 (c .before .before .before .before .before .before .pre .0 .0) (c .before .before .match .keys5))
 
--- src/operands.rt:68:1
 returns-6 : tie.Need-returns-6
 returns-6 c = search needs
 

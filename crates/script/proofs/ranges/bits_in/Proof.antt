@@ -1,45 +1,36 @@
+-- `bits_in` meets its contract: each return by the tests that led there; 1 << w does not wrap.
+-- Assumes nothing.
 use borrow.Author.Needs.{needs}
 use borrow.Author.Tests.{lt-ltb, le-ltb, le-leb, lt-leb}
 use native.Mathlib.Omega.{arith}
 use Rattle.field.proofs.Residues.{shift-one}
 use Rattle.script.proofs.ranges.bits_in.Statement.{statement}
 use Rattle.script.proofs.ranges.bits_in.Tie as tie
-use Rattle.script.proofs.ranges.bits_in.Reads as reads
-use Rattle.script.proofs.ranges.bits_in.Lts as lts
 
--- src/ranges.rt:58:9
 returns : tie.Need-returns
 returns c = rw (le-ltb _ _ (c .if1 .taken))
 
--- src/ranges.rt:61:9
 returns-2 : tie.Need-returns-2
 returns-2 c = rw (lt-ltb _ _ (c .before .if1 .left), le-ltb _ _ (c .if2 .taken))
 
--- src/ranges.rt:64:9
 returns-3 : tie.Need-returns-3
 returns-3 c = rw (lt-ltb _ _ (c .before .before .if1 .left), lt-ltb _ _ (c .before .if2 .left), lt-leb _ _ (c .if3 .taken))
 
--- src/ranges.rt:67:9
 returns-4 : tie.Need-returns-4
 returns-4 c = rw (lt-ltb _ _ (c .before .before .before .if1 .left), lt-ltb _ _ (c .before .before .if2 .left), le-leb _ _ (c .before .if3 .left), lt-leb _ _ (c .if4 .taken))
 
--- src/ranges.rt:69:13
 add-if5 : tie.Need-add-if5
 add-if5 c = search needs
 
--- src/ranges.rt:70:9
 returns-5 : tie.Need-returns-5
 returns-5 c = rw (lt-ltb _ _ (c .before .before .before .before .if1 .left), lt-ltb _ _ (c .before .before .before .if2 .left), le-leb _ _ (c .before .before .if3 .left), le-leb _ _ (c .before .if4 .left), lt-leb _ _ (c .if5 .taken))
 
--- src/ranges.rt:72:27
 cast-power : tie.Need-cast-power
 cast-power c = search needs
 
--- src/ranges.rt:72:22
 shl-power : tie.Need-shl-power
 shl-power c = search needs
 
--- src/ranges.rt:54:1
 returns-6 : tie.Need-returns-6
 returns-6 c = rw (lt-ltb _ _ (c .before .before .before .before .if1 .left), lt-ltb _ _ (c .before .before .before .if2 .left), le-leb _ _ (c .before .before .if3 .left), le-leb _ _ (c .before .if4 .left), le-leb _ _ (c .if5 .left), shift-one (c .before .before .before .before .before .args .w) 32 (omega arith))
 

@@ -1,190 +1,143 @@
+-- `in_range` meets its contract, command by command.
+-- Assumes nothing.
 use borrow.Author.Needs.{needs}
 use Rattle.model.specs.Script.{inRanges}
 use Rattle.script.proofs.ranges.in_range.Statement.{statement}
 use Rattle.script.proofs.ranges.in_range.Tie as tie
-use Rattle.script.proofs.ranges.in_range.Reads as reads
-use Rattle.script.proofs.ranges.in_range.Lts as lts
-use Rattle.script.proofs.ranges.bits_in.Reads as bits-in-reads
-use Rattle.script.proofs.ranges.both.Reads as both-reads
-use Rattle.script.proofs.ranges.registers.Reads as registers-reads
-use Rattle.script.proofs.ranges.three_registers.Reads as three-registers-reads
-use Rattle.script.proofs.ranges.with_k.Reads as with-k-reads
-use Rattle.script.proofs.ranges.with_m.Reads as with-m-reads
 
--- src/ranges.rt:81:25
 enum-told : tie.Need-enum-told
 enum-told c = search needs
 
--- src/ranges.rt:82:25
 enum-known-c : tie.Need-enum-known-c
 enum-known-c c = search needs
 
--- src/ranges.rt:83:26
 enum-known-c-2 : tie.Need-enum-known-c-2
 enum-known-c-2 c = search needs
 
--- src/ranges.rt:83:36
 both-requires : tie.Need-both-requires
 both-requires c κs = search needs
 
--- src/ranges.rt:84:24
 enum-known-c-3 : tie.Need-enum-known-c-3
 enum-known-c-3 c = search needs
 
--- src/ranges.rt:84:37
 three-registers-requires : tie.Need-three-registers-requires
 three-registers-requires c κs = search needs
 
--- src/ranges.rt:85:24
 enum-known-c-4 : tie.Need-enum-known-c-4
 enum-known-c-4 c = search needs
 
--- src/ranges.rt:85:37
 three-registers-requires-2 : tie.Need-three-registers-requires-2
 three-registers-requires-2 c κs = search needs
 
--- src/ranges.rt:86:26
 enum-known-c-5 : tie.Need-enum-known-c-5
 enum-known-c-5 c = search needs
 
--- src/ranges.rt:86:44
 registers-requires : tie.Need-registers-requires
 registers-requires c κs = search needs
 
--- src/ranges.rt:86:39
 both-requires-2 : tie.Need-both-requires-2
 both-requires-2 c κs = search needs
 
--- src/ranges.rt:87:24
 enum-known-c-6 : tie.Need-enum-known-c-6
 enum-known-c-6 c = search needs
 
--- src/ranges.rt:87:37
 three-registers-requires-3 : tie.Need-three-registers-requires-3
 three-registers-requires-3 c κs = search needs
 
--- src/ranges.rt:88:24
 enum-known-c-7 : tie.Need-enum-known-c-7
 enum-known-c-7 c = search needs
 
--- src/ranges.rt:88:40
 with-m-requires : tie.Need-with-m-requires
 with-m-requires c κs = search needs
 
--- src/ranges.rt:89:26
 enum-known-c-8 : tie.Need-enum-known-c-8
 enum-known-c-8 c = search needs
 
--- src/ranges.rt:89:42
 with-m-requires-2 : tie.Need-with-m-requires-2
 with-m-requires-2 c κs = search needs
 
--- src/ranges.rt:90:24
 enum-known-c-9 : tie.Need-enum-known-c-9
 enum-known-c-9 c = search needs
 
--- src/ranges.rt:90:37
 with-k-requires : tie.Need-with-k-requires
 with-k-requires c κs = search needs
 
--- src/ranges.rt:91:25
 enum-known-c-10 : tie.Need-enum-known-c-10
 enum-known-c-10 c = search needs
 
--- src/ranges.rt:91:46
 with-k-requires-2 : tie.Need-with-k-requires-2
 with-k-requires-2 c κs = search needs
 
--- src/ranges.rt:91:41
 both-requires-3 : tie.Need-both-requires-3
 both-requires-3 c κs = search needs
 
--- src/ranges.rt:92:27
 enum-known-c-11 : tie.Need-enum-known-c-11
 enum-known-c-11 c = search needs
 
--- src/ranges.rt:92:43
 with-m-requires-3 : tie.Need-with-m-requires-3
 with-m-requires-3 c κs = search needs
 
--- src/ranges.rt:93:27
 enum-known-c-12 : tie.Need-enum-known-c-12
 enum-known-c-12 c = search needs
 
--- src/ranges.rt:94:26
 enum-known-c-13 : tie.Need-enum-known-c-13
 enum-known-c-13 c = search needs
 
--- src/ranges.rt:94:42
 bits-in-requires : tie.Need-bits-in-requires
 bits-in-requires c κs = search needs
 
--- src/ranges.rt:77:1
 returns : tie.Need-returns
 unfolding inRanges
 returns c = rw (c .enum-told .given .1)
 
--- src/ranges.rt:77:1
 returns-2 : tie.Need-returns-2
 unfolding inRanges
 returns-2 c = rw (c .before .c .given .1)
 
--- src/ranges.rt:77:1
 returns-3 : tie.Need-returns-3
 unfolding inRanges
 returns-3 c = rw (c .before .before .c2 .given .1, c .both .ensures)
 
--- src/ranges.rt:77:1
 returns-4 : tie.Need-returns-4
 unfolding inRanges
 returns-4 c = rw (c .before .before .c3 .given .1, c .three-registers .ensures)
 
--- src/ranges.rt:77:1
 returns-5 : tie.Need-returns-5
 unfolding inRanges
 returns-5 c = rw (c .before .before .c4 .given .1, c .three-registers2 .ensures)
 
--- src/ranges.rt:77:1
 returns-6 : tie.Need-returns-6
 unfolding inRanges
 returns-6 c = rw (c .before .before .before .c5 .given .1, c .both2 .ensures, c .before .registers .ensures)
 
--- src/ranges.rt:77:1
 returns-7 : tie.Need-returns-7
 unfolding inRanges
 returns-7 c = rw (c .before .before .c6 .given .1, c .three-registers3 .ensures)
 
--- src/ranges.rt:77:1
 returns-8 : tie.Need-returns-8
 unfolding inRanges
 returns-8 c = rw (c .before .before .c7 .given .1, c .with-m .ensures)
 
--- src/ranges.rt:77:1
 returns-9 : tie.Need-returns-9
 unfolding inRanges
 returns-9 c = rw (c .before .before .c8 .given .1, c .with-m2 .ensures)
 
--- src/ranges.rt:77:1
 returns-10 : tie.Need-returns-10
 unfolding inRanges
 returns-10 c = rw (c .before .before .c9 .given .1, c .with-k .ensures)
 
--- src/ranges.rt:77:1
 returns-11 : tie.Need-returns-11
 unfolding inRanges
 returns-11 c = rw (c .before .before .before .c10 .given .1, c .both3 .ensures, c .before .with-k2 .ensures)
 
--- src/ranges.rt:77:1
 returns-12 : tie.Need-returns-12
 unfolding inRanges
 returns-12 c = rw (c .before .before .c11 .given .1, c .with-m3 .ensures)
 
--- src/ranges.rt:77:1
 returns-13 : tie.Need-returns-13
 unfolding inRanges
 returns-13 c = rw (c .before .c12 .given .1)
 
--- src/ranges.rt:77:1
 returns-14 : tie.Need-returns-14
 unfolding inRanges
 returns-14 c = rw (c .before .before .c13 .given .1, c .bits-in .ensures)
