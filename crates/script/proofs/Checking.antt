@@ -15,7 +15,8 @@ use Rattle.script.specs.declared.command.Decoded.the-variants.{Command a
 use Rattle.script.specs.Ends.{isEnd}
 use Rattle.script.specs.Meaning.{meant, numberOf, scriptNumber, scriptPlace}
 use Rattle.script.specs.Reading.{readingOf, readingAt}
-use Rattle.script.proofs.Decoding.{size-some, FoundAt, found-at, refused-at, passed}
+use Rattle.script.proofs.Sizes.{size-some}
+use Rattle.script.proofs.Decoding.{FoundAt, found-at, refused-at, passed}
 use Rattle.script.proofs.Scripts.{script-refused, script-ends, script-past-end, number-goes-on, place-goes-on, end-size, enough}
 
 module _ (p K : ℕ) (s : List ℕ) where

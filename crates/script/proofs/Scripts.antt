@@ -14,7 +14,8 @@ use Rattle.algebra.proofs.Tests.{is-true, every, every-at}
 use Rattle.model.specs.Script.{Command, END, Line, Script, accepted, refused, commandAt, sizeAt, numberAt, withLine, scriptStep, scriptFrom, scriptOf}
 use Rattle.script.specs.Ends.{isEnd}
 use Rattle.script.specs.Meaning.{scriptNumber, scriptPlace}
-use Rattle.script.proofs.Decoding.{commands, size-some, Passed, passed}
+use Rattle.script.proofs.Sizes.{commands, size-some}
+use Rattle.script.proofs.Decoding.{passed}
 
 -- of the commands that may stand at a place END is the first, and no other
 endFirst : List Command → ℕ → Bool

@@ -1,16 +1,17 @@
-// "9 to 11 are tried command by command from the script's start".
+// The refusals 9 to 11 of a whole script: they "are tried command by command from the script's start".
 ghost use mathlib.Core.Path.{_≡_};
 ghost use Rattle.model.specs.Script as Script;
 ghost use Rattle.script.specs.Meaning.{scriptNumber, scriptPlace};
 use crate::command::Decoded;
 use crate::decode;
 
-// 0 and END's offset, or the number of a refusal and its place.
+// 0 and END's offset, or the number and the place of the first refusal.
 pub struct Checked {
     pub number: u32,
     pub place: usize,
 }
 
+// The place is "the command's offset in the script, the script length if END is missing, or the offset just after END".
 pub fn check_script(p: u32, largest: u32, s: &[u8]) -> Checked
     ensures { λ r. ⌜ (r .number ≡ scriptNumber (Script.scriptOf p largest (now (s .entry)))) × (r .place ≡ scriptPlace (Script.scriptOf p largest (now (s .entry)))) ⌝ }
 {

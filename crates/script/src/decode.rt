@@ -1,4 +1,5 @@
-// What stands at a place of a script: "9: a command byte over 0D; 10: operands cut off; 11: an operand out of range".
+// What stands at a place of a script: a command, or 9 for "a command byte over 0D", 10 for "operands cut off" and for a script that has
+// ended, 11 for "an operand out of range".
 ghost use mathlib.Core.Path.{_≡_};
 ghost use Prim.Native.Nat.{_≤_};
 ghost use lib.ListN.{getD};
@@ -13,7 +14,7 @@ use crate::ranges;
 
 const SIZES: [usize; 14] = [1, 2, 6, 4, 4, 7, 4, 5, 5, 4, 8, 5, 2, 8];
 
-// How many bytes the command with this byte takes.
+// How many bytes a command takes, by its own.
 fn size_of(op: usize) -> usize
     requires { ⌜ op ≤ 13 ⌝ }
     ensures { λ r. ⌜ r ≡ getD Script.sizes op 1 ⌝ }
@@ -21,7 +22,7 @@ fn size_of(op: usize) -> usize
     SIZES[op]
 }
 
-// largest is the field's largest k.
+// The command at a place and the place after it, or its refusal; largest is the field's largest k.
 pub fn decode(p: u32, largest: u32, s: &[u8], at: usize) -> Decoded
     ensures { λ r. ⌜ readingOf r ≡ readingAt p largest (now (s .entry)) at ⌝ }
 {
@@ -44,7 +45,7 @@ pub fn decode(p: u32, largest: u32, s: &[u8], at: usize) -> Decoded
     }
 }
 
-// The number of a refusal, 0 for a command.
+// The number of a refusal, for the else of a let-else, which binds nothing; 0 for a command.
 pub fn refusal(d: Decoded) -> u32
     ensures { λ r. ⌜ r ≡ numberOf d ⌝ }
 {

@@ -2,5 +2,5 @@
 pub mod check;
 pub mod command;
 pub mod decode;
-pub mod operands;
-pub mod ranges;
+mod operands;
+mod ranges;

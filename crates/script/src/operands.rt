@@ -21,7 +21,7 @@ fn wide(x: u8) -> u32
     x as u32
 }
 
-// Byte j of the command at a place: a register or w, k or m, and v from byte j on.
+// Byte j of the command at a place, as a register or w.
 fn register(s: &[u8], at: usize, j: usize) -> usize
     requires { ⌜ at + j < length (now s) ⌝ }
     ensures { λ r. ⌜ r ≡ getD (now (s .entry)) (at + j) 0 ⌝ }
@@ -29,6 +29,7 @@ fn register(s: &[u8], at: usize, j: usize) -> usize
     index(s[at + j])
 }
 
+// The same byte as k or m.
 fn count(s: &[u8], at: usize, j: usize) -> u32
     requires { ⌜ at + j < length (now s) ⌝ }
     ensures { λ r. ⌜ r ≡ getD (now (s .entry)) (at + j) 0 ⌝ }
@@ -36,6 +37,7 @@ fn count(s: &[u8], at: usize, j: usize) -> u32
     wide(s[at + j])
 }
 
+// v, from byte j on.
 fn value(s: &[u8], at: usize, j: usize) -> u32
     requires { ⌜ at + j + 4 ≤ length (now s) ⌝ }
     ensures { λ r. ⌜ r ≡ Bytes.number 4 (now (s .entry)) (at + j) ⌝ }
@@ -43,7 +45,7 @@ fn value(s: &[u8], at: usize, j: usize) -> u32
     rows::read_word(s, at + j)
 }
 
-// The command whose byte, at place at, is op.
+// The command at a place, op its byte.
 pub fn command_at(s: &[u8], at: usize, op: usize) -> Command
     requires { ⌜ (op ≡ getD (now s) at 0) × (op ≤ 13) × (at + Script.sizeAt (now s) at ≤ length (now s)) ⌝ }
     ensures { λ r. ⌜ meant r ≡ Script.commandAt (now (s .entry)) at ⌝ }
@@ -64,7 +66,7 @@ pub fn command_at(s: &[u8], at: usize, op: usize) -> Command
     }
 }
 
-// A command that writes d and reads a, or bits from b on.
+// The commands with d and a second register.
 fn on_register(s: &[u8], at: usize, op: usize) -> Command
     requires { ⌜ (op ≡ getD (now s) at 0) × (3 ≤ op) × (op ≤ 13) × (op ≢ 12) ⌝ }
     requires { ⌜ at + Script.sizeAt (now s) at ≤ length (now s) ⌝ }
@@ -103,7 +105,7 @@ fn on_register(s: &[u8], at: usize, op: usize) -> Command
     }
 }
 
-// A command that takes d, a and k.
+// The commands with d, a and k.
 fn with_k(s: &[u8], at: usize, op: usize, d: usize, a: usize) -> Command
     requires { ⌜ (op ≡ getD (now s) at 0) × (7 ≤ op) × (op ≤ 11) ⌝ }
     requires { ⌜ (d ≡ getD (now s) (at + 1) 0) × (a ≡ getD (now s) (at + 2) 0) ⌝ }

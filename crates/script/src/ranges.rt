@@ -8,6 +8,7 @@ ghost use Rattle.model.specs.Script as Script;
 ghost use Rattle.script.specs.Meaning.{meant};
 use crate::command::Command;
 
+// x && y as a call: a chain of tests is then one value, with no branch to prove.
 fn both(x: bool, y: bool) -> bool
     ensures { λ r. ⌜ r ≡ (x && y) ⌝ }
 {
@@ -32,6 +33,7 @@ fn m_in(k: u32, m: u32) -> bool
     both(1 <= m, m < k)
 }
 
+// The tests that several commands share, in the paper's order of operands.
 fn three_registers(d: usize, a: usize, b: usize) -> bool
     ensures { λ r. ⌜ r ≡ (Script.register d && Script.register a && Script.register b) ⌝ }
 {
@@ -50,7 +52,7 @@ fn with_m(largest: u32, d: usize, a: usize, k: u32, m: u32) -> bool
     both(with_k(largest, d, a, k), m_in(k, m))
 }
 
-// BITLT: 2^w and b + w are computed once w and b are known to be small.
+// BITLT. b + w and 2^w are computed once b and w are known to be small.
 fn bits_in(d: usize, b: usize, w: usize, v: u32) -> bool
     ensures { λ r. ⌜ r ≡ (Script.register d && Script.register b && leb 1 w && leb w 31 && leb (b + w) 64 && ltb v (2 ^ w)) ⌝ }
 {
@@ -73,7 +75,7 @@ fn bits_in(d: usize, b: usize, w: usize, v: u32) -> bool
     v < power
 }
 
-// Whether a command's operands are in their ranges; largest is the field's largest k.
+// Whether a command's operands are in range; largest is the field's largest k.
 pub fn in_range(p: u32, largest: u32, c: Command) -> bool
     ensures { λ r. ⌜ r ≡ Script.inRanges p largest (meant c) ⌝ }
 {

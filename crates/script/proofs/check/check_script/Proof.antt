@@ -30,22 +30,30 @@ refusal-requires : tie.Need-refusal-requires Inv-loop μ-loop
 refusal-requires c κs = search needs
 
 returns : tie.Need-returns Inv-loop μ-loop
-returns c = at-refusal _ _ _ _ (c .before .before .before .before .loop .inv) (c .before .before .before .decode .ensures) (c .before .enum-told .given .1) (c .refusal .ensures)
+returns c =
+    let l = c .before .before .before in
+    at-refusal _ _ _ _ (l .before .loop .inv) (l .decode .ensures) (c .before .enum-told .given .1) (c .refusal .ensures)
 
 is-end-requires : tie.Need-is-end-requires Inv-loop μ-loop
 is-end-requires c κs = search needs
 
 returns-2 : tie.Need-returns-2 Inv-loop μ-loop
-returns-2 c = at-end _ _ _ _ (c .before .before .before .before .before .before .before .loop .inv) (c .before .before .before .before .before .before .decode .ensures) (c .before .before .before .before .found .given .1) (c .before .before .is-end .ensures) (c .before .if1 .taken) (c .if2 .taken)
+returns-2 c =
+    let l = c .before .before .before .before in
+    at-end _ _ _ _ (l .before .before .before .loop .inv) (l .before .before .decode .ensures) (l .found .given .1) (c .before .before .is-end .ensures)
+    (c .before .if1 .taken) (c .if2 .taken)
 
 returns-3 : tie.Need-returns-3 Inv-loop μ-loop
-returns-3 c = past-end _ _ _ _ (c .before .before .before .before .before .before .before .loop .inv) (c .before .before .before .before .before .before .decode .ensures) (c .before .before .before .before .found .given .1) (c .before .before .is-end .ensures) (c .before .if1 .taken) (c .if2 .left)
+returns-3 c =
+    let l = c .before .before .before .before in
+    past-end _ _ _ _ (l .before .before .before .loop .inv) (l .before .before .decode .ensures) (l .found .given .1) (c .before .before .is-end .ensures)
+    (c .before .if1 .taken) (c .if2 .left)
 
 loop-less : tie.Need-loop-less Inv-loop μ-loop
-loop-less c = closer _ _ _ _ (c .before .before .before .before .before .before .loop .inv) (c .before .before .before .before .before .decode .ensures) (c .before .before .before .found .given .1)
+loop-less c = search closer
 
 loop-again : tie.Need-loop-again Inv-loop μ-loop
-loop-again c = from-next _ _ _ _ (c .before .before .before .before .before .before .loop .inv) (c .before .before .before .before .before .decode .ensures) (c .before .before .before .found .given .1) (c .before .is-end .ensures) (c .if1 .left)
+loop-again c = search from-next
 
 pub check-script-spec : {M : Type 1} → statement M
 check-script-spec =

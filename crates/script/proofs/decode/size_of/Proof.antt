@@ -1,7 +1,7 @@
 -- `size_of` meets its contract: the table is the model's.
 -- Assumes nothing.
 use borrow.Author.Needs.{needs}
-use Rattle.script.proofs.Decoding.{size-known}
+use Rattle.script.proofs.Sizes.{size-known}
 use Rattle.script.proofs.decode.size_of.Statement.{statement}
 use Rattle.script.proofs.decode.size_of.Tie as tie
 

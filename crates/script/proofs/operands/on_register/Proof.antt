@@ -2,7 +2,7 @@
 -- Assumes nothing.
 use borrow.Author.Needs.{needs}
 use native.Mathlib.Omega.{arith}
-use Rattle.script.proofs.Decoding.{room, room-long, command-at-byte}
+use Rattle.script.proofs.Sizes.{room, room-long, command-at-byte}
 use Rattle.script.proofs.operands.on_register.Statement.{statement}
 use Rattle.script.proofs.operands.on_register.Tie as tie
 

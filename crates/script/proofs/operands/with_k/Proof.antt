@@ -1,7 +1,7 @@
 -- `operands::with_k` meets its contract: by its byte the command is that of the table, and its bytes stand within the script.
 -- Assumes nothing.
 use native.Mathlib.Omega.{arith}
-use Rattle.script.proofs.Decoding.{room, room-long, command-at-byte}
+use Rattle.script.proofs.Sizes.{room, room-long, command-at-byte}
 use Rattle.script.proofs.operands.with_k.Statement.{statement}
 use Rattle.script.proofs.operands.with_k.Tie as tie
 
