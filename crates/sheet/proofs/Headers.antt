@@ -1,13 +1,13 @@
 -- The refusals 1 to 4, and the frame of a header that they pass.
 -- Assumes nothing.
-use mathlib.Core.Path.{_≡_, refl, sym, ap, _∙_}
-use mathlib.Core.Bool.{Bool, true, false, _&&_}
+use mathlib.Core.Path.{_≡_, refl, ap, _∙_}
+use mathlib.Core.Bool.{true, false, _&&_}
 use mathlib.Core.List.{List}
 use Prim.Native.Nat.{ℕ, _+_, _*_, _≤_, _<_}
 use native.Mathlib.Nat.{mul-le-mul}
 use native.Mathlib.Omega.{arith}
 use borrow.Author.Tests.{lt-ltb, le-ltb, le-leb, lt-leb, eq-eqb, ne-eqb}
-use lib.Dec.{T, leb, eqb, leb→le}
+use lib.Dec.{T, leb, leb→le}
 use lib.ListN.{length, getD}
 use Rattle.algebra.proofs.Tests.{and-left, and-right, every-at}
 use Rattle.model.specs.Bytes.{number}

@@ -1,23 +1,21 @@
 -- The refusals of a whole sheet: those of its header, and 5 to 8 of a sheet that has a frame.
 -- Assumes nothing.
-use mathlib.Core.Path.{_≡_, refl, sym, ap, _∙_}
+use mathlib.Core.Path.{_≡_, refl, sym, _∙_}
 use mathlib.Core.Bool.{Bool, true, false, _&&_}
 use mathlib.Core.List.{List, _++_}
-use Prim.Native.Nat.{ℕ, _+_, _*_, _≤_, _<_}
+use Prim.Native.Nat.{ℕ, _+_, _*_, _≤_}
 use native.Mathlib.Nat.{mul-le-mul}
 use native.Mathlib.Omega.{arith}
 use borrow.Author.Tests.{lt-ltb, le-leb, eq-eqb}
-use lib.Dec.{T, ltb, leb, eqb}
-use lib.ListN.{length, take}
-use Rattle.algebra.specs.Lists.{allBelow}
+use lib.Dec.{ltb, leb, eqb}
+use lib.ListN.{length}
 use Rattle.algebra.proofs.Tests.{is-true}
 use Rattle.model.specs.Entries.{tried}
-use Rattle.model.specs.Fields.{Modulus, modulus, bits, parties}
-use Rattle.model.specs.Sharing.{isSharing}
-use Rattle.model.specs.Sheet.{Header, headerOf, settingOf, limits, inputsAt, impliedLength, inputIn, dealIn, dealRows, rowsAt, masksFrom, triplesFrom, all, sharesBelow, aSharing, goodMask, goodTriple, sheetNumber}
+use Rattle.model.specs.Fields.{Modulus, parties}
+use Rattle.model.specs.Sheet.{headerOf, settingOf, limits, impliedLength, inputIn, dealIn, dealRows, rowsAt, masksFrom, triplesFrom, all, sharesBelow, aSharing, goodMask, goodTriple, sheetNumber}
 use Rattle.model.specs.Steps.{Setting, Row, Triple}
 use Rattle.model.proofs.Fields.{fields, parties-test}
-use Rattle.model.proofs.SheetDeal.{rowCount, implied, all-rows}
+use Rattle.model.proofs.SheetDeal.{all-rows}
 use Rattle.sheet.specs.Framed.{Framed, settingIn}
 use Rattle.sheet.specs.Reading.{headerNumber}
 use Rattle.sheet.specs.declared.frame.Frame.{Frame}
@@ -110,11 +108,12 @@ module _ {s : List ℕ} {f : Frame} (F : Framed s f) where
         unfolding left
         refused-7 z = sym (tests-left ∙ rw (← ea, x, ← eb, y, ← ec, z))
 
-        module _ (z : c ≡ true) {d : Bool} (ed : d ≡ all (goodTriple (settingIn f)) (triplesFrom s (f .n) (f .triple) (f .triples))) where
+        module _ (z : c ≡ true) {d : Bool}
+            (ed : (l : ℕ) → d ≡ all (goodTriple (record { p = f .p; l = l; n = f .n; t = f .t })) (triplesFrom s (f .n) (f .triple) (f .triples))) where
           pub refused-8 : d ≡ false → 8 ≡ sheetNumber s
           unfolding left
-          refused-8 w = sym (tests-left ∙ rw (← ea, x, ← eb, y, ← ec, z, ← ed, w))
+          refused-8 w = sym (tests-left ∙ rw (← ea, x, ← eb, y, ← ec, z, ← ed (f .l), w))
 
           pub not-refused : d ≡ true → 0 ≡ sheetNumber s
           unfolding left
-          not-refused w = sym (tests-left ∙ rw (← ea, x, ← eb, y, ← ec, z, ← ed, w))
+          not-refused w = sym (tests-left ∙ rw (← ea, x, ← eb, y, ← ec, z, ← ed (f .l), w))

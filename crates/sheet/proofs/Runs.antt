@@ -1,16 +1,12 @@
 -- A loop that tests each element of a run, one law for each of its needs.
 -- Assumes nothing.
-use mathlib.Core.Path.{_≡_, refl, sym, ap, _∙_}
+use mathlib.Core.Path.{_≡_, refl, sym, _∙_}
 use mathlib.Core.Bool.{Bool, true, false}
 use mathlib.Core.List.{List, [], _∷_}
-use Prim.Native.Nat.{ℕ, zero, suc, _+_, _-_, _*_, _≤_, _<_}
+use Prim.Native.Nat.{ℕ, suc, _+_, _-_, _*_, _≤_, _<_}
 use native.Mathlib.Nat.{mul-le-mul-left}
 use native.Mathlib.Omega.{arith}
-use lib.ListN.{getD}
-use Rattle.algebra.specs.Rows.{row}
-use Rattle.algebra.proofs.Rows.{row-again}
 use Rattle.model.specs.Bytes.{rowAt}
-use Rattle.model.specs.Sharing.{isSharing}
 use Rattle.model.specs.Sheet.{all, rowsAt, masksFrom, tripleAt, triplesFrom}
 
 -- run i c is the c elements at i, i + step, and so on
@@ -67,9 +63,3 @@ module _ {A : Type 0} {f : A → Bool} {run : ℕ → ℕ → List A} {step i co
   pub testing-end : {at : ℕ → A} → Run at step run → {k from : ℕ} → Testing f run step i count k from → count ≤ k → true ≡ all f (run i count)
   unfolding all
   testing-end R {k} {from} G h = let m : count - k ≡ 0 = omega arith in sym (G .is ∙ rw (m, R .none from))
-
--- the test of a row that was read, which asks about its first n cells
-pub sharing-read : (p n t : ℕ) (s : List ℕ) (from : ℕ) {x : List ℕ} {a b : Bool} → x ≡ rowAt s n from → a ≡ isSharing p n t (row n (λ j. getD x j 0))
-    → a ≡ b → isSharing p n t (rowAt s n from) ≡ b
-unfolding rowAt
-sharing-read p n t s from e r q = ap (isSharing p n t) (sym (row-again n _)) ∙ rw e at (sym r) ∙ q

@@ -37,7 +37,7 @@ fn wide(x: u8) -> u32
     x as u32
 }
 
-fn place(x: u8) -> usize
+fn byte(x: u8) -> usize
     ensures { λ r. ⌜ (r ≡ x) × (r < 256) ⌝ }
 {
     x as usize
@@ -48,7 +48,7 @@ fn read_count(s: &[u8], i: usize) -> usize
     requires { ⌜ i + 2 ≤ length (now s) ⌝ }
     ensures { λ r. ⌜ r ≡ Bytes.number 2 (now (s .entry)) i ⌝ }
 {
-    place(s[i]) + 256 * place(s[i + 1])
+    byte(s[i]) + 256 * byte(s[i + 1])
 }
 
 fn read_numbers(s: &[u8]) -> Header
@@ -109,7 +109,7 @@ fn frame_of(h: Header) -> Frame
     }
 }
 
-// The frame of a sheet, or the paper's number of its refusal, 1 to 4.
+// The frame of a sheet, or the paper's number of its refusal, 1 to 4, which is never 0.
 pub fn read_header(s: &[u8]) -> Read
     ensures { λ r. ⌜ (numberOf r ≡ headerNumber (now (s .entry))) × ((f : FrameOf) → r ≡ Found.Sheet f → Framed (now (s .entry)) f) × ((number : ℕ) → r ≡ Found.Refused number → 0 < number) ⌝ }
 {

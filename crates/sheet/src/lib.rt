@@ -14,7 +14,7 @@ ghost use Rattle.sheet.specs.declared.header.Read.the-variants as Found;
 use crate::frame::Frame;
 use crate::header::Read;
 
-// The frame of a sheet, or the paper's number of its refusal, 1 to 8.
+// The frame of a sheet, or the paper's number of its refusal, 1 to 8, which is never 0.
 pub fn read_sheet(s: &[u8]) -> Read
     ensures { λ r. ⌜ (numberOf r ≡ Sheet.sheetNumber (now (s .entry))) × ((f : FrameOf) → r ≡ Found.Sheet f → Framed (now (s .entry)) f) × ((number : ℕ) → r ≡ Found.Refused number → 0 < number) ⌝ }
 {

@@ -22,28 +22,28 @@ all-below-requires : tie.Need-all-below-requires
 all-below-requires c κs = search needs
 
 all-sharings-requires : tie.Need-all-sharings-requires
-all-sharings-requires c κs = let F = c .before .before .before .before .before .before .pre in (modulus-in F, F .parties, omega arith)
+all-sharings-requires c κs = search (needs, modulus-in)
 
 good-masks-requires : tie.Need-good-masks-requires
-good-masks-requires c κs = let F = c .before .before .before .before .before .before .before .before .pre in (modulus-in F, bits-in F, omega arith, omega arith, omega arith)
+good-masks-requires c κs = search (needs, modulus-in, bits-in)
 
 good-triples-requires : tie.Need-good-triples-requires
-good-triples-requires c κs = let F = c .before .before .before .before .before .before .before .before .before .before .pre in (modulus-in F, omega arith, omega arith, omega arith)
+good-triples-requires c κs = search (needs, modulus-in)
 
 returns : tie.Need-returns
-returns c = not-refused (c .before .before .before .before .before .before .before .before .before .before .before .before .pre) (c .before .before .before .before .before .before .before .all-below .ensures) (c .before .before .before .before .before .before .if1 .taken) (c .before .before .before .before .before .all-sharings .ensures) (c .before .before .before .before .if2 .taken) (c .before .before .before .good-masks .ensures) (c .before .before .if3 .taken) (c .before .good-triples .ensures _) (c .if4 .taken)
+returns c = search (needs, not-refused)
 
 returns-2 : tie.Need-returns-2
-returns-2 c = refused-8 (c .before .before .before .before .before .before .before .before .before .before .before .before .pre) (c .before .before .before .before .before .before .before .all-below .ensures) (c .before .before .before .before .before .before .if1 .taken) (c .before .before .before .before .before .all-sharings .ensures) (c .before .before .before .before .if2 .taken) (c .before .before .before .good-masks .ensures) (c .before .before .if3 .taken) (c .before .good-triples .ensures _) (c .if4 .left)
+returns-2 c = search (needs, refused-8)
 
 returns-3 : tie.Need-returns-3
-returns-3 c = refused-7 (c .before .before .before .before .before .before .before .before .before .before .pre) (c .before .before .before .before .before .all-below .ensures) (c .before .before .before .before .if1 .taken) (c .before .before .before .all-sharings .ensures) (c .before .before .if2 .taken) (c .before .good-masks .ensures) (c .if3 .left)
+returns-3 c = search (needs, refused-7)
 
 returns-4 : tie.Need-returns-4
-returns-4 c = refused-6 (c .before .before .before .before .before .before .before .before .pre) (c .before .before .before .all-below .ensures) (c .before .before .if1 .taken) (c .before .all-sharings .ensures) (c .if2 .left)
+returns-4 c = search (needs, refused-6)
 
 returns-5 : tie.Need-returns-5
-returns-5 c = refused-5 (c .before .before .before .before .before .before .pre) (c .before .all-below .ensures) (c .if1 .left)
+returns-5 c = search (needs, refused-5)
 
 pub rows-number-spec : {M : Type 1} → statement M
 rows-number-spec =

@@ -3,7 +3,6 @@
 use Prim.Native.Nat.{_-_}
 use Rattle.sheet.proofs.Spelling.{Spelling, spelling-start, spelling-fits, power-fits, bit-fits, spelling-more, spelling-fails, spelling-end}
 use borrow.Author.Needs.{needs}
-use mathlib.Core.Path.{_≡_, sym, _∙_, ap}
 use native.Mathlib.Omega.{arith}
 use Rattle.sheet.proofs.deal.good_mask.Statement.{statement}
 use Rattle.sheet.proofs.deal.good_mask.Tie as tie

@@ -4,7 +4,7 @@ use Prim.Native.Nat.{_-_, _*_}
 use Rattle.model.specs.Sheet.{goodMask, masksFrom}
 use Rattle.sheet.proofs.Runs.{Testing, masks-run, testing-start, testing-fits, testing-more, testing-fails, testing-end}
 use borrow.Author.Needs.{needs}
-use mathlib.Core.Path.{_≡_, sym, _∙_}
+use mathlib.Core.Path.{sym, _∙_}
 use native.Mathlib.Omega.{arith}
 use Rattle.sheet.proofs.deal.good_masks.Statement.{statement}
 use Rattle.sheet.proofs.deal.good_masks.Tie as tie

@@ -6,20 +6,20 @@ use borrow.Author.Needs.{needs}
 use Rattle.sheet.proofs.header.read_count.Statement.{statement}
 use Rattle.sheet.proofs.header.read_count.Tie as tie
 
-shared-slice-read-place : tie.Need-shared-slice-read-place
-shared-slice-read-place c = search needs
+shared-slice-read-byte : tie.Need-shared-slice-read-byte
+shared-slice-read-byte c = search needs
 
-place-requires : tie.Need-place-requires
-place-requires c κs = search needs
+byte-requires : tie.Need-byte-requires
+byte-requires c κs = search needs
 
-add-place : tie.Need-add-place
-add-place c = search needs
+add-byte : tie.Need-add-byte
+add-byte c = search needs
 
-shared-slice-read-place-2 : tie.Need-shared-slice-read-place-2
-shared-slice-read-place-2 c = search needs
+shared-slice-read-byte-2 : tie.Need-shared-slice-read-byte-2
+shared-slice-read-byte-2 c = search needs
 
-place-requires-2 : tie.Need-place-requires-2
-place-requires-2 c κs = search needs
+byte-requires-2 : tie.Need-byte-requires-2
+byte-requires-2 c κs = search needs
 
 mul-result : tie.Need-mul-result
 mul-result c = search needs
@@ -35,11 +35,11 @@ pub read-count-spec : {M : Type 1} → statement M
 read-count-spec =
     tie.close
     (tie.spec
-    shared-slice-read-place
-    place-requires
-    add-place
-    shared-slice-read-place-2
-    place-requires-2
+    shared-slice-read-byte
+    byte-requires
+    add-byte
+    shared-slice-read-byte-2
+    byte-requires-2
     mul-result
     add-result
     returns)

@@ -7,7 +7,7 @@ use Rattle.sheet.proofs.Answers.{refused, accepted}
 use Rattle.sheet.proofs.Headers.{refused-1, refused-2, refused-3, refused-limits, refused-length, not-refused}
 use Rattle.sheet.specs.Reading.{told}
 use lib.Dec.{T}
-use mathlib.Core.Bool.{true, false}
+use mathlib.Core.Bool.{true}
 use mathlib.Core.Path.{_≡_, sym, subst, _∙_}
 use native.Mathlib.Omega.{arith}
 use borrow.Author.Needs.{needs}

@@ -6,7 +6,7 @@ use Rattle.sheet.proofs.Words.{words, words-run, rows-below}
 use borrow.Author.Needs.{needs}
 use borrow.Author.Tests.{lt-ltb, le-ltb}
 use lib.Dec.{ltb}
-use mathlib.Core.Path.{_≡_, sym, _∙_}
+use mathlib.Core.Path.{sym, _∙_}
 use native.Mathlib.Omega.{arith}
 use Rattle.sheet.proofs.rows.all_below.Statement.{statement}
 use Rattle.sheet.proofs.rows.all_below.Tie as tie

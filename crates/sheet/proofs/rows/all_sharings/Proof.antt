@@ -1,14 +1,26 @@
 -- `rows::all_sharings` meets its contract: a law for each need of its loop over rows.
 -- Assumes nothing.
-use Prim.Native.Nat.{_-_, _*_}
+use Prim.Native.Nat.{ℕ, _-_, _*_}
+use Rattle.algebra.proofs.Rows.{row-again}
+use Rattle.algebra.specs.Rows.{row}
+use Rattle.model.specs.Bytes.{rowAt}
 use Rattle.model.specs.Sharing.{isSharing}
 use Rattle.model.specs.Sheet.{rowsAt}
-use Rattle.sheet.proofs.Runs.{Testing, rows-run, testing-start, testing-fits, testing-more, testing-fails, testing-end, sharing-read}
+use Rattle.sheet.proofs.Runs.{Testing, rows-run, testing-start, testing-fits, testing-more, testing-fails, testing-end}
 use borrow.Author.Needs.{needs}
-use mathlib.Core.Path.{_≡_, sym, _∙_}
+use lib.ListN.{getD}
+use mathlib.Core.Bool.{Bool}
+use mathlib.Core.List.{List}
+use mathlib.Core.Path.{_≡_, sym, ap, _∙_}
 use native.Mathlib.Omega.{arith}
 use Rattle.sheet.proofs.rows.all_sharings.Statement.{statement}
 use Rattle.sheet.proofs.rows.all_sharings.Tie as tie
+
+-- the test of a row that was read, which asks about its first n cells
+sharing-read : (p n t : ℕ) (s : List ℕ) (from : ℕ) {x : List ℕ} {a b : Bool} → x ≡ rowAt s n from → a ≡ isSharing p n t (row n (λ j. getD x j 0))
+    → a ≡ b → isSharing p n t (rowAt s n from) ≡ b
+unfolding rowAt
+sharing-read p n t s from e r q = ap (isSharing p n t) (sym (row-again n _)) ∙ rw e at (sym r) ∙ q
 
 abbrev Inv-loop : tie.InvT-loop
 Inv-loop p n t s i count from₀ k₀ from k = Testing (λ x. isSharing p n t x) (rowsAt s n) (4 * n) i count k from
