@@ -9,8 +9,6 @@ ghost use Rattle.model.specs.Fields as Fields;
 ghost use Rattle.model.specs.Sheet as Sheet;
 ghost use Rattle.sheet.specs.Framed.{Framed};
 ghost use Rattle.sheet.specs.Reading.{told, numberOf, headerNumber};
-ghost use Rattle.sheet.specs.declared.frame.Frame.{Frame as FrameOf};
-ghost use Rattle.sheet.specs.declared.header.Read.the-variants as Found;
 use crate::frame::Frame;
 use field::table;
 
@@ -111,7 +109,7 @@ fn frame_of(h: Header) -> Frame
 
 // The frame of a sheet, or the paper's number of its refusal, 1 to 4, which is never 0.
 pub fn read_header(s: &[u8]) -> Read
-    ensures { λ r. ⌜ (numberOf r ≡ headerNumber (now (s .entry))) × ((f : FrameOf) → r ≡ Found.Sheet f → Framed (now (s .entry)) f) × ((number : ℕ) → r ≡ Found.Refused number → 0 < number) ⌝ }
+    ensures { λ r. ⌜ (numberOf r ≡ headerNumber (now (s .entry))) × ((f : Frame) → r ≡ Read.Sheet f → Framed (now (s .entry)) f) × ((number : ℕ) → r ≡ Read.Refused number → 0 < number) ⌝ }
 {
     if s.len() < 11 {
         return Read::Refused(1);

@@ -9,14 +9,12 @@ ghost use Prim.Native.Nat.{ℕ, _<_};
 ghost use Rattle.model.specs.Sheet as Sheet;
 ghost use Rattle.sheet.specs.Framed.{Framed};
 ghost use Rattle.sheet.specs.Reading.{numberOf};
-ghost use Rattle.sheet.specs.declared.frame.Frame.{Frame as FrameOf};
-ghost use Rattle.sheet.specs.declared.header.Read.the-variants as Found;
 use crate::frame::Frame;
 use crate::header::Read;
 
 // The frame of a sheet, or the paper's number of its refusal, 1 to 8, which is never 0.
 pub fn read_sheet(s: &[u8]) -> Read
-    ensures { λ r. ⌜ (numberOf r ≡ Sheet.sheetNumber (now (s .entry))) × ((f : FrameOf) → r ≡ Found.Sheet f → Framed (now (s .entry)) f) × ((number : ℕ) → r ≡ Found.Refused number → 0 < number) ⌝ }
+    ensures { λ r. ⌜ (numberOf r ≡ Sheet.sheetNumber (now (s .entry))) × ((f : Frame) → r ≡ Read.Sheet f → Framed (now (s .entry)) f) × ((number : ℕ) → r ≡ Read.Refused number → 0 < number) ⌝ }
 {
     let read = header::read_header(s);
     let Read::Sheet(f) = read else {
