@@ -1,0 +1,73 @@
+-- `deal::good_mask` meets its contract: a law for each need of its loop over bits.
+-- Assumes nothing.
+use Prim.Native.Nat.{_-_}
+use Rattle.sheet.proofs.Spelling.{Spelling, spelling-start, spelling-fits, power-fits, bit-fits, spelling-more, spelling-fails, spelling-end}
+use borrow.Author.Needs.{needs}
+use native.Mathlib.Omega.{arith}
+use Rattle.sheet.proofs.deal.good_mask.Statement.{statement}
+use Rattle.sheet.proofs.deal.good_mask.Tie as tie
+
+abbrev Inv-loop : tie.InvT-loop
+Inv-loop p l n t s i v₀ power₀ from₀ k₀ v power from k = Spelling (record { p = p; l = l; n = n; t = t }) s i l k from v power
+
+abbrev μ-loop : tie.MeasureT-loop
+μ-loop p l n t s i v₀ power₀ from₀ k₀ v power from k = l - k
+
+loop-holds : tie.Need-loop-holds Inv-loop μ-loop
+loop-holds c = spelling-start
+
+read-row-requires : tie.Need-read-row-requires Inv-loop μ-loop
+read-row-requires c κs = (omega arith, omega (arith, spelling-fits (c .before .loop .inv) (omega arith)))
+
+secret-of-requires : tie.Need-secret-of-requires Inv-loop μ-loop
+secret-of-requires c κs = search needs
+
+returns : tie.Need-returns Inv-loop μ-loop
+returns c = let l = c .before .before .before .before .loop in spelling-fails (l .inv) (omega arith) (rw (c .before .before .read-row .ensures) at (c .before .secret-of .ensures .0)) (c .if1 .taken)
+
+mul-v : tie.Need-mul-v Inv-loop μ-loop
+mul-v c = let l = c .before .before .before .before .loop in omega (arith, power-fits (l .inv) (omega arith) (omega arith), bit-fits {b = c .before .secret-of .result} (l .inv) (omega arith))
+
+add-v : tie.Need-add-v Inv-loop μ-loop
+add-v c = let l = c .before .before .before .before .loop in omega (arith, power-fits (l .inv) (omega arith) (omega arith), bit-fits {b = c .before .secret-of .result} (l .inv) (omega arith), l .inv .low)
+
+mul-power : tie.Need-mul-power Inv-loop μ-loop
+mul-power c = let l = c .before .before .before .before .loop in omega (arith, power-fits (l .inv) (omega arith) (omega arith))
+
+mul-from : tie.Need-mul-from Inv-loop μ-loop
+mul-from c = search needs
+
+add-from : tie.Need-add-from Inv-loop μ-loop
+add-from c = omega (arith, spelling-fits (c .before .before .before .before .loop .inv) (omega arith))
+
+add-k : tie.Need-add-k Inv-loop μ-loop
+add-k c = search needs
+
+loop-less : tie.Need-loop-less Inv-loop μ-loop
+loop-less c = search needs
+
+loop-again : tie.Need-loop-again Inv-loop μ-loop
+loop-again c = let l = c .before .before .before .before .loop in spelling-more (l .inv) (omega arith) (rw (c .before .before .read-row .ensures) at (c .before .secret-of .ensures .0)) (omega arith)
+
+returns-2 : tie.Need-returns-2 Inv-loop μ-loop
+returns-2 c = spelling-end (c .before .loop .inv) (omega arith)
+
+pub good-mask-spec : {M : Type 1} → statement M
+good-mask-spec =
+    tie.close
+    (tie.spec
+    Inv-loop
+    μ-loop
+    loop-holds
+    read-row-requires
+    secret-of-requires
+    returns
+    mul-v
+    add-v
+    mul-power
+    mul-from
+    add-from
+    add-k
+    loop-less
+    loop-again
+    returns-2)
