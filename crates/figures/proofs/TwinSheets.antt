@@ -8,19 +8,19 @@ use lib.ListN.{length, getD}
 use Rattle.algebra.specs.Ring.{add, sub, mul}
 use Rattle.algebra.specs.Lists.{allBelow, from, over, All, none}
 use Rattle.algebra.specs.Rows.{tab, row}
 use Rattle.model.specs.Fields.{modulus, bits, largestK, inverse, inversePowerOf2, parties}
 use Rattle.model.specs.Sharing.{eval, share, newton, reciprocal, slope, interpolate, recover, secret, sameList, isSharing, at}
 use Rattle.model.specs.Shamir.{Group, Agree}
 use Rattle.model.specs.Bytes.{number, rowAt}
 use Rattle.model.specs.Steps.{Row, Triple, Deal, plus, minus, times, constant, value, beaver, product, comparisonFrom, comparison, spelled, unmasked, remainder, floor}
 use Rattle.model.specs.Script.{LOAD, REVEAL, commandAt, sizeAt, inRanges, numberAt, scriptFrom, scriptOf}
 use Rattle.model.specs.Costs.{cost}
 use Rattle.model.specs.Sheet.{headerOf, limits, impliedLength, scriptIn, rowsAt, masksFrom, triplesFrom, inputIn, dealIn, all, maskRows, tripleRows, spell, secrets, goodMask, goodTriple, sheetNumber, bytesOf, shareBytes, rowBytes, headerBytes, sheetOf}
 use Rattle.model.specs.Run.{allSet, marked, check, pay, put, perform, finish, runLines, nothingSpent, start, written, outcome, runScript, stopOf, run}
-use Rattle.model.specs.Witness.{line}
+use Rattle.figures.specs.Witness.{line}
 use Rattle.model.specs.Secrecy.{Alike, end, row as and-row, WellFormed, Twins, Veil, runOn}
-use Rattle.model.specs.TwinSheets.{sheet, one, three, lines, plain, NotEmpty, TooMuch}
-use Rattle.model.proofs.Examples.{a-group}
+use Rattle.figures.specs.TwinSheets.{sheet, one, three, lines, plain, NotEmpty, TooMuch}
+use Rattle.figures.proofs.Examples.{a-group}
 
 -- party 2's shares are the same
 agree : Agree (2 ∷ []) one three

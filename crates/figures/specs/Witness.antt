@@ -4,12 +4,12 @@ use mathlib.Core.Path.{_≡_}
 use mathlib.Core.List.{List, [], _∷_, map}
 use Prim.Native.Nat.{ℕ}
 use lib.ListN.{take, replicate}
 use Rattle.model.specs.Steps.{Deal}
 use Rattle.model.specs.Script.{Command, END, LOAD, CONST, ADD, SUB, SCALE, MUL, MOD, TRUNC, LTZ, OVER, BLOCKS, REVEAL, BITLT, Line}
 use Rattle.model.specs.Sheet.{Header, secrets, sheetOf}
 use Rattle.model.specs.Run.{Stop, stopOf}
 use Rattle.model.specs.Exactness.{Accepted}
-use Rattle.model.specs.Figures.{small, of, five}
+use Rattle.figures.specs.Figures.{small, of, five}
 
 -- field 0; register 0 is −1, and the others are worked from it with k = 3
 abbrev pub script : List ℕ
