@@ -16,4 +16,4 @@ use Rattle.figures.specs.Witness.{sheet, lines, seen, Witness}
 
 pub witness : Witness
 unfolding add sub mul allBelow from tab row modulus bits largestK inverse inversePowerOf2 parties eval share newton reciprocal slope interpolate recover secret sameList isSharing number rowAt plus minus times constant value beaver product comparisonFrom comparison spelled unmasked remainder floor sign over blocks commandAt sizeAt inRanges numberAt scriptFrom scriptOf cost headerOf limits impliedLength scriptIn rowsAt masksFrom triplesFrom inputIn dealIn all maskRows tripleRows spell secrets goodMask goodTriple sheetNumber bytesOf shareBytes rowBytes headerBytes sheetOf allSet marked check pay registersFrom put perform finish runLines nothingSpent start runScript stopOf sheet lines seen
-witness = record { is-accepted = record { number = refl; script = refl }; stops = refl }
+witness = record { is-accepted = record { lines = lines; end = 64; number = refl; script = refl }; has-lines = refl; has-end = refl; stops = refl }

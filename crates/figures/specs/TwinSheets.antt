@@ -6,10 +6,9 @@ use mathlib.Core.List.{List, [], _∷_, map}
 use Prim.Native.Nat.{ℕ}
 use lib.ListN.{replicate}
 use Rattle.algebra.specs.Rows.{padded}
-use Rattle.model.specs.Sharing.{secret}
-use Rattle.model.specs.Steps.{Row, Deal}
+use Rattle.model.specs.Steps.{Row}
 use Rattle.model.specs.Script.{LOAD, MUL, MOD, TRUNC, REVEAL, Line}
-use Rattle.model.specs.Sheet.{Header, headerOf, inputIn, secrets, sheetOf}
+use Rattle.model.specs.Sheet.{headerOf, inputIn, secrets, sheetOf}
 use Rattle.figures.specs.Figures.{small, of, five}
 use Rattle.figures.specs.Witness.{line}
 use Rattle.model.specs.Secrecy.{Twins, Veil, revealedBy}

@@ -5,11 +5,11 @@ use mathlib.Core.Logic.{_↔_, _≢_}
 use mathlib.Core.List.{List, [], _∷_, List·Memᴰ as In}
 use Prim.Native.Nat.{ℕ, suc, _%_, _≤_, _<_}
 use lib.Dec.{T}
-use lib.ListN.{length, drop}
+use lib.ListN.{length}
 use Rattle.algebra.specs.Ring.{add, sub, mul}
 use Rattle.algebra.specs.Lists.{Below, from}
 use Rattle.algebra.specs.Rows.{row, on, padded}
-use Rattle.model.specs.Fields.{modulus, Parties}
+use Rattle.model.specs.Fields.{modulus}
 use Rattle.model.specs.Sharing.{Sharing, share, recover, secret, isSharing, at, weighted}
 use Rattle.model.specs.Entries.{shareNumber, shareLeft, recoverNumber, recoverValue, recoverLeft}
 
