@@ -7,10 +7,10 @@ use mathlib.Core.List.{[], _∷_, List·Memᴰ·eq-of-singleton, List·Memᴰ·n
 use Prim.Native.Nat.{suc}
 use native.Mathlib.Omega.{arith}
 use Rattle.algebra.specs.Ring.{add, sub, mul}
-use Rattle.algebra.specs.Lists.{from, total}
+use Rattle.algebra.specs.Lists.{from, total, sameList}
 use Rattle.algebra.specs.Rows.{tab, row, padded}
 use Rattle.model.specs.Fields.{modulus, inverse, Parties}
-use Rattle.model.specs.Sharing.{eval, newton, reciprocal, slope, interpolate, share, Sharing, recover, secret, sameList, isSharing, ratio, weight, weighted}
+use Rattle.model.specs.Sharing.{eval, newton, reciprocal, slope, interpolate, share, Sharing, recover, secret, isSharing, ratio, weight, weighted}
 use Rattle.model.specs.Shamir.{Group}
 use Rattle.model.proofs.Fields.{fields}
 use Rattle.model.proofs.Sharings.{test-exact}

@@ -2,10 +2,10 @@
 -- Assumes nothing.
 use mathlib.Core.Path.{refl}
 use Rattle.algebra.specs.Ring.{add, sub, mul}
-use Rattle.algebra.specs.Lists.{allBelow, from, total, over}
+use Rattle.algebra.specs.Lists.{allBelow, from, total, over, sameList}
 use Rattle.algebra.specs.Rows.{tab, row}
 use Rattle.model.specs.Fields.{modulus, bits, largestK, inverse, parties}
-use Rattle.model.specs.Sharing.{eval, share, newton, reciprocal, slope, interpolate, recover, secret, sameList, isSharing}
+use Rattle.model.specs.Sharing.{eval, share, newton, reciprocal, slope, interpolate, recover, secret, isSharing}
 use Rattle.model.specs.Bytes.{number, rowAt}
 use Rattle.model.specs.Steps.{plus, minus, times, constant, value, beaver, product}
 use Rattle.model.specs.Script.{commandAt, sizeAt, inRanges, numberAt, scriptFrom, scriptOf}

@@ -6,10 +6,10 @@ use Prim.Native.Nat.{ℕ}
 use native.Mathlib.Omega.{arith}
 use lib.ListN.{length, getD}
 use Rattle.algebra.specs.Ring.{add, sub, mul}
-use Rattle.algebra.specs.Lists.{allBelow, from, over, none}
+use Rattle.algebra.specs.Lists.{allBelow, from, over, none, sameList}
 use Rattle.algebra.specs.Rows.{tab, row}
 use Rattle.model.specs.Fields.{modulus, bits, largestK, inverse, inversePowerOf2, parties}
-use Rattle.model.specs.Sharing.{eval, share, newton, reciprocal, slope, interpolate, recover, secret, sameList, isSharing}
+use Rattle.model.specs.Sharing.{eval, share, newton, reciprocal, slope, interpolate, recover, secret, isSharing}
 use Rattle.model.specs.Shamir.{Agree}
 use Rattle.model.specs.Bytes.{number, rowAt}
 use Rattle.model.specs.Steps.{Deal, plus, minus, times, constant, value, beaver, product, comparisonFrom, comparison, spelled, unmasked, remainder, floor}
