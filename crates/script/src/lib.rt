@@ -1,0 +1,2 @@
+// The script: its commands, the decoder, and the refusals 9 to 11.
+pub mod command;

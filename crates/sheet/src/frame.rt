@@ -1,0 +1,16 @@
+// What an accepted header says, by value: the field's numbers, the parties, how many input rows, masks and triples there are, the script's
+// length, and the places in the sheet's bytes of the first input row, the first mask and the first triple.
+pub struct Frame {
+    pub p: u32,
+    pub l: usize,
+    pub largest: u32,
+    pub n: usize,
+    pub t: usize,
+    pub inputs: usize,
+    pub masks: usize,
+    pub triples: usize,
+    pub script: usize,
+    pub input: usize,
+    pub mask: usize,
+    pub triple: usize,
+}
