@@ -1,1 +1,3 @@
 pub mod Meaning
+pub mod Ends
+pub mod Reading

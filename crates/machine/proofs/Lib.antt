@@ -1,0 +1,4 @@
+pub mod Registers
+pub mod Keeping
+pub mod Places
+pub mod Readiness

@@ -1,0 +1,229 @@
+-- What a command that is ready finds in the sheet and in the record: one lemma for each kind of command.
+-- Assumes nothing.
+use mathlib.Core.Path.{_≡_, refl, sym, ap, subst, _∙_}
+use mathlib.Core.Bool.{Bool, _&&_}
+use mathlib.Core.List.{List, [], _∷_, _++_}
+use Prim.Native.Nat.{ℕ, zero, suc, _+_, _-_, _*_, _^_, _≤_, _<_}
+use native.Mathlib.Nat.{mul-le-mul-right}
+use native.Mathlib.Omega.{arith}
+use borrow.Rule.Slice.PartMut.{putMid, midOf}
+use lib.Dec.{T, ltb, leb, ltb→lt, leb→le}
+use lib.ListN.{length, set, take, drop, length-drop}
+use lib.Seq.{take-all}
+use lib.Pow.{pow-mono}
+use Rattle.algebra.specs.Lists.{over}
+use Rattle.algebra.proofs.Tests.{and-left, and-right}
+use Rattle.model.specs.Fields as Fields
+use Rattle.model.specs.Script.{Command, MUL, MOD, TRUNC, LTZ, OVER, BLOCKS, REVEAL, BITLT, inRanges, register, kIn, mIn}
+use Rattle.model.specs.Costs.{cost}
+use Rattle.model.specs.Sheet.{rowsAt, triplesFrom}
+use Rattle.model.specs.Bytes.{sevens}
+use Rattle.model.specs.Sharing.{secret}
+use Rattle.model.specs.Steps.{Setting, Row, Deal, Step, first, value, comparison}
+use Rattle.model.specs.Run as Run
+use Rattle.model.proofs.Acceptance.{wider}
+use Rattle.model.proofs.Taking.{Took, took-comparison}
+use Rattle.steps.proofs.Following.{triples-drop}
+use Rattle.steps.proofs.Putting.{length-rows}
+use Rattle.sheet.specs.declared.frame.Frame.{Frame}
+use Rattle.sheet.specs.Framed.{Framed, settingIn}
+use Rattle.machine.specs.declared.table.Table.{Table}
+use Rattle.machine.specs.Tables.{registerIn, countsOf, paid}
+use Rattle.machine.specs.Holding.{Holds, Ready, inputsOf, maskPlace, triplePlace, logPlace}
+use Rattle.machine.proofs.Keeping.{Left, opened-left, register-is, holds-reveal}
+use Rattle.machine.proofs.Registers.{from-sevens}
+use Rattle.machine.proofs.Places.{n-most, t-most, l-most, field-of, mask-fits, triples-fit, mask-at}
+
+-- the places lie within the sheet and the record
+pub record Within (s : List ℕ) (f : Frame) (log : ℕ) (t : Table) : Type 0 where
+  pub mask : maskPlace f t ≤ length s
+  pub triple : triplePlace f t ≤ length s
+  pub log-place : logPlace f t ≤ log
+
+pub within : {s : List ℕ} {f : Frame} {log : ℕ} {c : Command} {t : Table} → Ready s f log c t → Within s f log t
+within {s} {f} {log} {c} {t} R =
+    record {
+      mask = let m : t .spent .masks * (f .l * (4 * f .n)) ≤ f .masks * (f .l * (4 * f .n)) = mul-le-mul-right _ (omega (arith, R .masks)) in
+          omega (arith, R .framed .whole, R .framed .triples-place);
+      triple = let m : t .spent .triples * (12 * f .n) ≤ f .triples * (12 * f .n) = mul-le-mul-right _ (omega (arith, R .triples)) in
+          omega (arith, R .framed .whole);
+      log-place = omega (arith, R .room);
+    }
+
+-- registers
+pub below : (r : ℕ) → T (register r) → r < 64
+below r t = ltb→lt r 64 t
+
+-- MOD, TRUNC and BLOCKS; LTZ and OVER with m = k − 1
+pub record Masked (s : List ℕ) (f : Frame) (log : ℕ) (t : Table) (d a k m : ℕ) : Type 0 where
+  pub d-in : d < 64
+  pub a-in : a < 64
+  pub m-least : 1 ≤ m
+  pub m-most : m < k
+  pub k-most : k ≤ 30
+  pub power : 2 ^ k < f .p
+  pub m-within : m ≤ f .l
+  pub masks : t .spent .masks + 1 ≤ f .masks
+  pub triples : t .spent .triples + (f .l + 2 * m - 2) ≤ f .triples
+  pub mask-room : maskPlace f t + f .l * (4 * f .n) ≤ length s
+  pub triple-room : triplePlace f t + (f .l + 2 * m - 2) * (12 * f .n) ≤ length s
+  pub log-room : logPlace f t + (f .n + (f .l + 2 * m - 2) * (f .n + f .n)) ≤ log
+  pub room : (t .spent .openings + (1 + 2 * (f .l + 2 * m - 2))) * f .n ≤ log
+
+module _ {s : List ℕ} {f : Frame} {log : ℕ} {t : Table} (F : Framed s f) (d a k m : ℕ) where
+  masked : T (register d) → T (register a) → T (kIn (f .largest) k) → 1 ≤ m → m < k → t .spent .masks + 1 ≤ f .masks
+      → t .spent .triples + (f .l + 2 * m - 2) ≤ f .triples → (t .spent .openings + (1 + 2 * (f .l + 2 * m - 2))) * f .n ≤ log → Masked s f log t d a k m
+  masked rd ra rk least most hm ht room =
+      let K = field-of F in
+      let kk : k ≤ f .largest = leb→le k (f .largest) (and-right (leb 2 k) (leb k (f .largest)) rk) in
+      record {
+        d-in = below d rd;
+        a-in = below a ra;
+        m-least = least;
+        m-most = most;
+        k-most = omega (arith, K .k-most);
+        power = let q : 2 ^ k ≤ 2 ^ f .largest = pow-mono {i = k} {j = f .largest} kk in omega (arith, K .range-fits);
+        m-within = omega (arith, wider K);
+        masks = hm;
+        triples = ht;
+        mask-room = mask-fits F (t .spent .masks) hm;
+        triple-room = triples-fit F (t .spent .triples) (f .l + 2 * m - 2) ht;
+        log-room = omega (arith, room);
+        room = room;
+      }
+
+  pub blocks-ready : T (register d && register a && kIn (f .largest) k && mIn k m) → t .spent .masks + 1 ≤ f .masks
+      → t .spent .triples + (f .l + 2 * m - 2) ≤ f .triples → (t .spent .openings + (1 + 2 * (f .l + 2 * m - 2))) * f .n ≤ log → Masked s f log t d a k m
+  blocks-ready ok =
+      let three = and-left (register d && register a && kIn (f .largest) k) (mIn k m) ok in
+      let two = and-left (register d && register a) (kIn (f .largest) k) three in
+      let b = and-right (register d && register a && kIn (f .largest) k) (mIn k m) ok in
+      masked (and-left (register d) (register a) two) (and-right (register d) (register a) two) (and-right (register d && register a) (kIn (f .largest) k) three)
+      (leb→le 1 m (and-left (leb 1 m) (ltb m k) b)) (ltb→lt m k (and-right (leb 1 m) (ltb m k) b))
+
+module _ {s : List ℕ} {f : Frame} {log : ℕ} {t : Table} (F : Framed s f) (d a k : ℕ) where
+  pub sign-ready : T (register d && register a && kIn (f .largest) k) → t .spent .masks + 1 ≤ f .masks
+      → t .spent .triples + (f .l + 2 * (k - 1) - 2) ≤ f .triples → (t .spent .openings + (1 + 2 * (f .l + 2 * (k - 1) - 2))) * f .n ≤ log
+      → Masked s f log t d a k (k - 1)
+  sign-ready ok =
+      let two = and-left (register d && register a) (kIn (f .largest) k) ok in
+      let rk = and-right (register d && register a) (kIn (f .largest) k) ok in
+      let least : 2 ≤ k = leb→le 2 k (and-left (leb 2 k) (leb k (f .largest)) rk) in
+      masked F d a k (k - 1) (and-left (register d) (register a) two) (and-right (register d) (register a) two) rk (omega arith) (omega arith)
+
+-- what stands at the places
+module _ {s : List ℕ} {f : Frame} {log₀ shown₀ : List ℕ} {t : Table} {log shown : List ℕ} {x : Run.State} where
+  pub next-mask : {mask : ℕ} → Holds s f log₀ shown₀ t log shown x → t .spent .masks + 1 ≤ f .masks → mask ≡ maskPlace f t
+      → first [] (x .deal .masks) ≡ rowsAt s (f .n) mask (f .l)
+  next-mask H h e = ap (first []) (H .masks) ∙ mask-at s (f .n) (f .l) (f .mask) (f .masks) (t .spent .masks) (omega arith) ∙ rw e
+
+  pub mask-length : Holds s f log₀ shown₀ t log shown x → t .spent .masks + 1 ≤ f .masks → length (first [] (x .deal .masks)) ≡ f .l
+  mask-length H h = ap length (next-mask H h refl) ∙ length-rows s (f .n) (maskPlace f t) (f .l)
+
+  pub next-triples : {i : ℕ} → Holds s f log₀ shown₀ t log shown x → t .spent .triples ≤ f .triples → i ≡ triplePlace f t
+      → x .deal .triples ≡ triplesFrom s (f .n) i (f .triples - t .spent .triples)
+  next-triples H h e = H .triples ∙ triples-drop s (f .n) (f .triple) (f .triples) (t .spent .triples) h ∙ rw e
+
+  pub next-triple : {i : ℕ} → Holds s f log₀ shown₀ t log shown x → t .spent .triples + 1 ≤ f .triples → i ≡ triplePlace f t
+      → x .deal .triples ≡ triplesFrom s (f .n) i (suc (f .triples - t .spent .triples - 1))
+  next-triple H h e =
+      let many : f .triples - t .spent .triples ≡ suc (f .triples - t .spent .triples - 1) = omega arith in
+      next-triples H (omega arith) e ∙ ap (triplesFrom s (f .n) _) many
+
+  -- what the code's step leaves is what the paper's leaves
+  pub step-left : {z : Row} {m k o at : ℕ} {last : List ℕ} {st st′ : Step} → Holds s f log₀ shown₀ t log shown x
+      → (z ≡ st .left) × (last ≡ over (Run.written (f .n) (st .opened)) (midOf at (length log - at) log)) → Took (x .deal) m k o st′ → at ≡ logPlace f t
+      → (t .spent .openings + o) * f .n ≤ length log → st ≡ st′ → Left f log₀ t (putMid at (length log - at) log last) x z m k o st′
+  step-left {at = at} {last} {st′ = st′} H E K ea room e =
+      opened-left {at = at} {last = last} st′ H (E .0 ∙ ap (λ (v : Step). v .left) e) K ea
+      (E .1 ∙ ap (λ (v : Step). over (Run.written (f .n) (v .opened)) (midOf at (length log - at) log)) e) room
+
+-- MUL and BITLT: c triples, two openings each
+pub record Spending (s : List ℕ) (f : Frame) (log : ℕ) (t : Table) (c : ℕ) : Type 0 where
+  pub triples : t .spent .triples + c ≤ f .triples
+  pub triple-room : triplePlace f t + c * (12 * f .n) ≤ length s
+  pub log-room : logPlace f t + c * (f .n + f .n) ≤ log
+  pub room : (t .spent .openings + 2 * c) * f .n ≤ log
+
+spending : {s : List ℕ} {f : Frame} {log : ℕ} {t : Table} (c : ℕ) → Framed s f → t .spent .triples + c ≤ f .triples
+    → (t .spent .openings + 2 * c) * f .n ≤ log → Spending s f log t c
+spending {t = t} c F h room =
+    record { triples = h; triple-room = triples-fit F (t .spent .triples) c h; log-room = omega (arith, room); room = room }
+
+pub record MulReady (s : List ℕ) (f : Frame) (log : ℕ) (t : Table) (d a b : ℕ) : Type 0 where
+  pub d-in : d < 64
+  pub a-in : a < 64
+  pub b-in : b < 64
+  pub spends : Spending s f log t 1
+
+pub mul-ready : {s : List ℕ} {f : Frame} {log : ℕ} {t : Table} {d a b : ℕ} → Ready s f log (MUL d a b) t → MulReady s f log t d a b
+unfolding cost inRanges
+mul-ready {d = d} {a} {b} R =
+    let two = and-left (register d && register a) (register b) (R .ranged) in
+    record {
+      d-in = below d (and-left (register d) (register a) two);
+      a-in = below a (and-right (register d) (register a) two);
+      b-in = below b (and-right (register d && register a) (register b) (R .ranged));
+      spends = spending 1 (R .framed) (R .triples) (R .room);
+    }
+
+pub record CompareReady (s : List ℕ) (f : Frame) (log : ℕ) (t : Table) (d b w : ℕ) : Type 0 where
+  pub d-in : d < 64
+  pub w-least : 1 ≤ w
+  pub w-most : w ≤ 31
+  pub last-in : b + w ≤ 64
+  pub spends : Spending s f log t (w - 1)
+
+pub compare-ready : {s : List ℕ} {f : Frame} {log : ℕ} {t : Table} {d b w v : ℕ} → Ready s f log (BITLT d b w v) t → CompareReady s f log t d b w
+unfolding cost inRanges
+compare-ready {d = d} {b} {w} {v} R =
+    let five = and-left (register d && register b && leb 1 w && leb w 31 && leb (b + w) 64) (ltb v (2 ^ w)) (R .ranged) in
+    let four = and-left (register d && register b && leb 1 w && leb w 31) (leb (b + w) 64) five in
+    let three = and-left (register d && register b && leb 1 w) (leb w 31) four in
+    record {
+      d-in = below d (and-left (register d) (register b) (and-left (register d && register b) (leb 1 w) three));
+      w-least = leb→le 1 w (and-right (register d && register b) (leb 1 w) three);
+      w-most = leb→le w 31 (and-right (register d && register b && leb 1 w) (leb w 31) four);
+      last-in = leb→le (b + w) 64 (and-right (register d && register b && leb 1 w && leb w 31) (leb (b + w) 64) five);
+      spends = spending (w - 1) (R .framed) (R .triples) (R .room);
+    }
+
+pub record RevealReady (f : Frame) (log : ℕ) (t : Table) (a : ℕ) : Type 0 where
+  pub a-in : a < 64
+  pub log-room : logPlace f t + f .n ≤ log
+  pub room : (t .spent .openings + 1) * f .n ≤ log
+
+pub reveal-ready : {s : List ℕ} {f : Frame} {log : ℕ} {t : Table} {a : ℕ} → Ready s f log (REVEAL a) t → RevealReady f log t a
+unfolding cost inRanges
+reveal-ready {a = a} R = record { a-in = below a (R .ranged); log-room = omega (arith, R .room); room = R .room }
+
+-- BITLT's bits are the registers' rows
+module _ {s : List ℕ} {f : Frame} {log₀ shown₀ : List ℕ} {t : Table} {log shown : List ℕ} {x : Run.State} where
+  pub bits-are : Holds s f log₀ shown₀ t log shown x → (b w : ℕ) → b + w ≤ 64
+      → sevens w (take (448 - 7 * b) (drop (7 * b) (t .cells))) ≡ Run.registersFrom x b w
+  bits-are H b w h =
+      let all : take (448 - 7 * b) (drop (7 * b) (t .cells)) ≡ drop (7 * b) (t .cells) =
+      take-all (448 - 7 * b) (drop (7 * b) (t .cells)) (rw (length-drop (7 * b) (t .cells), H .cells) (omega arith)) in
+      rw all (from-sevens x (t .cells) b w (H .registers) h)
+
+length-registers : (x : Run.State) (b w : ℕ) → length (Run.registersFrom x b w) ≡ w
+unfolding Run.registersFrom
+length-registers x b zero = refl
+length-registers x b (suc w) = ap suc (length-registers x (suc b) w)
+
+pub took-bits : (S : Setting) → S .n ≤ 7 → (v b w : ℕ) (x : Run.State)
+    → Took (x .deal) 0 (w - 1) (2 * (w - 1)) (comparison S v (Run.registersFrom x b w) (x .deal))
+took-bits S h v b w x =
+    subst (λ (c : ℕ). Took (x .deal) 0 (c - 1) (2 * (c - 1)) (comparison S v (Run.registersFrom x b w) (x .deal))) (length-registers x b w)
+    (took-comparison S h v (Run.registersFrom x b w) (x .deal))
+
+pub revealed-holds : {s : List ℕ} {f : Frame} {log₀ shown₀ : List ℕ} {t : Table} {log shown : List ℕ} {x : Run.State} {a v at : ℕ} {row : Row} {last : List ℕ}
+    → Holds s f log₀ shown₀ t log shown x → f .n ≤ 7 → length row ≡ 7 → a < 64 → row ≡ registerIn t a → v ≡ secret (f .p) (f .t) row → at ≡ logPlace f t
+    → last ≡ over (take (f .n) row) (midOf at (length log - at) log) → (t .spent .openings + 1) * f .n ≤ length log → t .spent .revealed < length shown
+    → Holds s f log₀ shown₀ (paid t (countsOf (cost (f .l) (REVEAL a)))) (putMid at (length log - at) log last) (set shown (t .spent .revealed) v)
+    (Run.finish (settingIn f) (inputsOf s f) (REVEAL a) x)
+unfolding cost Run.finish Run.perform value
+revealed-holds {f = f} {x = x} {a} {v} {at} {row} {last} H hn seven ha er ev ea el room space =
+    let e : row ≡ Run.register x a = er ∙ register-is H a ha in
+    let ev′ : v ≡ secret (f .p) (f .t) (Run.register x a) = ev ∙ ap (secret (f .p) (f .t)) e in
+    rw ev′ (holds-reveal a (Run.register x a) (secret (f .p) (f .t) (Run.register x a)) at last H hn (rw (sym e) seven) ea (rw (sym e) el) room space)

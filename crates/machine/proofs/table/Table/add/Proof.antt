@@ -1,0 +1,51 @@
+use mathlib.Core.Path.{_≡_, refl, sym, ap, _∙_}
+use mathlib.Core.List.{List, [], _∷_}
+use Prim.Native.Nat.{ℕ}
+use lib.ListN.{length}
+use Rattle.model.specs.Costs.{cost}
+use Rattle.model.specs.Run.{register, made, perform, finish}
+use Rattle.model.specs.Script.{ADD}
+use Rattle.model.specs.Steps.{plus}
+use Rattle.sheet.specs.Framed.{settingIn}
+use Rattle.machine.proofs.Keeping.{performs-put, made-left, register-is}
+use borrow.Author.Needs.{needs}
+use Rattle.machine.proofs.table.Table.add.Statement.{statement}
+use Rattle.machine.proofs.table.Table.add.Tie as tie
+use Rattle.machine.proofs.table.Table.add.Reads as reads
+use Rattle.machine.proofs.table.Table.add.Lts as lts
+use Rattle.machine.proofs.table.Table.put.Reads as put-reads
+use Rattle.machine.proofs.table.Table.row.Reads as row-reads
+use Rattle.sharing.proofs.rows.add_rows.Reads as add-rows-reads
+
+-- src/linear.rt:37:44
+row-requires : tie.Need-row-requires
+row-requires c κs = search needs
+
+-- src/linear.rt:37:57
+row-requires-2 : tie.Need-row-requires-2
+row-requires-2 c κs = search needs
+
+-- src/linear.rt:37:13
+add-rows-requires : tie.Need-add-rows-requires
+add-rows-requires c κs = search needs
+
+-- src/linear.rt:38:9
+put-requires : tie.Need-put-requires
+put-requires c κs = search needs
+
+-- src/linear.rt:33:5
+returns : tie.Need-returns
+unfolding finish perform cost plus
+returns c s log shown =
+    let a = c .before .before .before .before .args in
+    let h = c .before .before .before .before .pre in
+    let z = c .before .add-rows .result .shares in
+    let l : length z ≡ 7 = search needs in
+    performs-put (ADD (a .d) (a .a) (a .b)) (a .d) 0 0 0 0 (a .a ∷ a .b ∷ []) z
+    (λ x. made x (plus (settingIn (a .f)) (register x (a .a)) (register x (a .b)))) refl (λ x. refl) (h .2) (h .1) l (c .put .ensures)
+    (λ log₀ shown₀ x H.
+    made-left (h .1) H
+    (c .before .add-rows .ensures ∙ rw (c .before .before .before .row .ensures, c .before .before .row2 .ensures, register-is H (a .a) (h .3), register-is H (a .b) (h .4))))
+
+pub add-spec : {M : Type 1} → statement M
+add-spec = tie.close (tie.spec row-requires row-requires-2 add-rows-requires put-requires returns)

@@ -1,0 +1,39 @@
+use mathlib.Core.Path.{_≡_, refl, sym, ap, _∙_}
+use mathlib.Core.List.{List, [], _∷_}
+use Prim.Native.Nat.{ℕ}
+use lib.ListN.{length}
+use Rattle.model.specs.Costs.{cost}
+use Rattle.model.specs.Run.{register, made, perform, finish}
+use Rattle.model.specs.Script.{CONST}
+use Rattle.model.specs.Steps.{constant}
+use Rattle.sheet.specs.Framed.{settingIn}
+use Rattle.machine.proofs.Keeping.{performs-put, made-left, register-is}
+use borrow.Author.Needs.{needs}
+use Rattle.machine.proofs.table.Table.fill.Statement.{statement}
+use Rattle.machine.proofs.table.Table.fill.Tie as tie
+use Rattle.machine.proofs.table.Table.fill.Reads as reads
+use Rattle.machine.proofs.table.Table.fill.Lts as lts
+use Rattle.machine.proofs.table.Table.put.Reads as put-reads
+use Rattle.sharing.proofs.rows.constant_row.Reads as constant-row-reads
+
+-- src/linear.rt:29:21
+constant-row-requires : tie.Need-constant-row-requires
+constant-row-requires c κs = search needs
+
+-- src/linear.rt:29:9
+put-requires : tie.Need-put-requires
+put-requires c κs = search needs
+
+-- src/linear.rt:25:5
+returns : tie.Need-returns
+unfolding finish perform cost constant
+returns c s log shown =
+    let a = c .before .before .args in
+    let h = c .before .before .pre in
+    let z = c .before .constant-row .result .shares in
+    let l : length z ≡ 7 = search needs in
+    performs-put (CONST (a .d) (a .v)) (a .d) 0 0 0 0 [] z (λ x. made x (constant (settingIn (a .f)) (a .v))) refl (λ x. refl) (h .1) (h .0) l
+    (c .put .ensures) (λ log₀ shown₀ x H. made-left (h .0) H (c .before .constant-row .ensures))
+
+pub fill-spec : {M : Type 1} → statement M
+fill-spec = tie.close (tie.spec constant-row-requires put-requires returns)

@@ -1,0 +1,47 @@
+-- The table of 64 registers as the code holds it: 448 cells, register r's from cell 7r on.
+-- Assumes nothing.
+use mathlib.Core.Bool.{true, false}
+use mathlib.Core.List.{List, _++_}
+use Prim.Native.Nat.{ℕ, _+_, _*_}
+use lib.ListN.{set, take, drop, replicate}
+use Rattle.model.specs.Steps.{Row}
+use Rattle.model.specs.Costs as Costs
+use Rattle.machine.specs.declared.table.Counts.{Counts}
+use Rattle.machine.specs.declared.table.Table.{Table}
+
+unfoldable pub emptyTable : Table
+emptyTable =
+    record {
+      cells = replicate 448 0;
+      marks = replicate 64 false;
+      spent = record { inputs = 0; masks = 0; triples = 0; openings = 0; revealed = 0 };
+    }
+
+-- register a's cells
+abbrev pub registerIn : Table → ℕ → Row
+registerIn t a = take 7 (drop (7 * a) (t .cells))
+
+-- the table with the row x in register d, which is set
+unfoldable pub putTable : Table → ℕ → Row → Table
+putTable t d x =
+    record { cells = take (7 * d) (t .cells) ++ (x ++ drop (7 * d + 7) (t .cells)); marks = set (t .marks) d true; spent = t .spent }
+
+-- what a command spends, without the registers that it reads and writes
+abbrev pub countsOf : Costs.Cost → Counts
+countsOf c = record { inputs = c .inputs; masks = c .masks; triples = c .triples; openings = c .openings; revealed = c .revealed }
+
+-- the table with so much paid
+unfoldable pub paid : Table → Counts → Table
+paid t c =
+    record {
+      cells = t .cells;
+      marks = t .marks;
+      spent =
+          record {
+            inputs = t .spent .inputs + c .inputs;
+            masks = t .spent .masks + c .masks;
+            triples = t .spent .triples + c .triples;
+            openings = t .spent .openings + c .openings;
+            revealed = t .spent .revealed + c .revealed;
+          };
+    }

@@ -1,0 +1,5 @@
+pub mod Sizes
+pub mod Decoding
+pub mod InRange
+pub mod Scripts
+pub mod Checking

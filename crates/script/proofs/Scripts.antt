@@ -1,0 +1,109 @@
+-- A script from a place on, by what stands there: laws for a loop that reads it command by command.
+-- Assumes nothing.
+use mathlib.Core.Path.{_≡_, refl, sym, ap, _∙_}
+use mathlib.Core.Logic.{_≢_}
+use mathlib.Core.Bool.{Bool, true, false, cond}
+use mathlib.Core.List.{List, [], _∷_}
+use Prim.Native.Nat.{ℕ, zero, suc, _+_, _-_, _≤_, _<_}
+use native.Mathlib.Numerals.{sub-one}
+use native.Mathlib.Omega.{arith}
+use borrow.Author.Tests.{le-leb, eq-eqb, ne-eqb, eqb-true}
+use lib.Dec.{T, ltb, eqb, ltb→lt}
+use lib.ListN.{length, getD}
+use Rattle.algebra.proofs.Tests.{is-true, every, every-at}
+use Rattle.model.specs.Script.{Command, END, Line, Script, accepted, refused, commandAt, sizeAt, numberAt, withLine, scriptStep, scriptFrom, scriptOf}
+use Rattle.script.specs.Ends.{isEnd}
+use Rattle.script.specs.Meaning.{scriptNumber, scriptPlace}
+use Rattle.script.proofs.Sizes.{commands, size-some}
+use Rattle.script.proofs.Decoding.{passed}
+
+-- of the commands that may stand at a place END is the first, and no other
+endFirst : List Command → ℕ → Bool
+endFirst cs k = cond (isEnd (getD cs k END)) (eqb k 0) (ltb 0 k)
+
+end-first : (cs : List Command) → T (every 14 (endFirst cs)) → (k : ℕ) → k ≤ 13 → isEnd (getD cs k END) ≡ eqb k 0
+unfolding endFirst
+end-first cs t k h = go (isEnd (getD cs k END)) (every-at 14 (endFirst cs) t k (omega arith))
+  where
+    go : (b : Bool) → T (cond b (eqb k 0) (ltb 0 k)) → b ≡ eqb k 0
+    go true q = sym (is-true _ q)
+    go false q = sym (ne-eqb k 0 (λ z. let l = ltb→lt 0 k q in omega arith))
+
+number-line : (x : Line) (rest : Script) → scriptNumber (withLine x rest) ≡ scriptNumber rest
+number-line x (accepted xs end) = refl
+number-line x (refused number place) = refl
+
+place-line : (x : Line) (rest : Script) → scriptPlace (withLine x rest) ≡ scriptPlace rest
+place-line x (accepted xs end) = refl
+place-line x (refused number place) = refl
+
+module _ (p K : ℕ) (s : List ℕ) where
+  abbrev lineAt : ℕ → Line
+  lineAt i = record { place = i; command = commandAt s i }
+
+  end-byte : (i : ℕ) → numberAt p K s i ≡ 0 → isEnd (commandAt s i) ≡ eqb (getD s i 0) 0
+  unfolding commandAt endFirst
+  end-byte i e = end-first (commands s i) tt (getD s i 0) (passed p K s i e .known)
+
+  pub end-size : (i : ℕ) → numberAt p K s i ≡ 0 → isEnd (commandAt s i) ≡ true → sizeAt s i ≡ 1
+  unfolding sizeAt
+  end-size i e f = let z : getD s i 0 ≡ 0 = eqb-true _ _ (sym (end-byte i e) ∙ f) in rw z
+
+  turn : (fuel i : ℕ) → 0 < fuel → scriptFrom fuel p K s i ≡ scriptStep (numberAt p K s i) s i (scriptFrom (fuel - 1) p K s (i + sizeAt s i))
+  unfolding scriptFrom
+  turn zero i h = absurd (omega arith)
+  turn (suc most) i h = rw sub-one
+
+  pub script-refused : (fuel i : ℕ) {n : ℕ} → 0 < fuel → n ≡ numberAt p K s i → n ≢ 0 → scriptFrom fuel p K s i ≡ refused n i
+  script-refused fuel i {n = zero} h e d = absurd (d refl)
+  script-refused fuel i {n = suc n} h e d = rw (turn fuel i h, ← e)
+
+  module _ (fuel i : ℕ) (h : 0 < fuel) (e : numberAt p K s i ≡ 0) where
+    ended : isEnd (commandAt s i) ≡ true → scriptFrom fuel p K s i ≡ cond (eqb (i + 1) (length s)) (accepted [] i) (refused 10 (i + 1))
+    ended f = rw (turn fuel i h, e, ← end-byte i e, f)
+
+    pub script-ends : isEnd (commandAt s i) ≡ true → i + 1 ≡ length s → scriptFrom fuel p K s i ≡ accepted [] i
+    script-ends f l = ended f ∙ rw (eq-eqb _ _ l)
+
+    pub script-past-end : isEnd (commandAt s i) ≡ true → i + 1 ≢ length s → scriptFrom fuel p K s i ≡ refused 10 (i + 1)
+    script-past-end f l = ended f ∙ rw (ne-eqb _ _ l)
+
+    pub script-ends-well : isEnd (commandAt s i) ≡ true → scriptNumber (scriptFrom fuel p K s i) ≡ 0 → scriptFrom fuel p K s i ≡ accepted [] i
+    script-ends-well f z = ended f ∙ go (eqb (i + 1) (length s)) (rw (ended f) at z)
+      where
+        go : (b : Bool) → scriptNumber (cond b (accepted [] i) (refused 10 (i + 1))) ≡ 0 → cond b (accepted [] i) (refused 10 (i + 1)) ≡ accepted [] i
+        go true q = refl
+        go false q = absurd (omega arith)
+
+    pub script-goes-on : isEnd (commandAt s i) ≡ false → scriptFrom fuel p K s i ≡ withLine (lineAt i) (scriptFrom (fuel - 1) p K s (i + sizeAt s i))
+    script-goes-on f = rw (turn fuel i h, e, ← end-byte i e, f)
+
+    pub number-goes-on : isEnd (commandAt s i) ≡ false → scriptNumber (scriptFrom fuel p K s i) ≡ scriptNumber (scriptFrom (fuel - 1) p K s (i + sizeAt s i))
+    number-goes-on f = ap scriptNumber (script-goes-on f) ∙ number-line (lineAt i) (scriptFrom (fuel - 1) p K s (i + sizeAt s i))
+
+    pub place-goes-on : isEnd (commandAt s i) ≡ false → scriptPlace (scriptFrom fuel p K s i) ≡ scriptPlace (scriptFrom (fuel - 1) p K s (i + sizeAt s i))
+    place-goes-on f = ap scriptPlace (script-goes-on f) ∙ place-line (lineAt i) (scriptFrom (fuel - 1) p K s (i + sizeAt s i))
+
+  -- a script that is accepted from a place on has a command there
+  pub accepted-at : (fuel i : ℕ) → scriptNumber (scriptFrom fuel p K s i) ≡ 0 → (numberAt p K s i ≡ 0) × (0 < fuel)
+  unfolding scriptFrom
+  accepted-at zero i z = absurd (omega arith)
+  accepted-at (suc most) i z = (go (numberAt p K s i) z, omega arith)
+    where
+      go : (n : ℕ) → scriptNumber (scriptStep n s i (scriptFrom most p K s (i + sizeAt s i))) ≡ 0 → n ≡ 0
+      go zero q = refl
+      go (suc n) q = absurd (omega arith)
+
+  -- any two fuels that reach past the script's end give the same
+  missing : (i : ℕ) → length s ≤ i → numberAt p K s i ≡ 10
+  unfolding numberAt
+  missing i h = rw (le-leb _ _ h)
+
+  pub enough : (f g i : ℕ) → length s < i + f → length s < i + g → scriptFrom f p K s i ≡ scriptFrom g p K s i
+  unfolding scriptFrom
+  enough zero zero i a b = refl
+  enough zero (suc g) i a b = rw (missing i (omega arith))
+  enough (suc f) zero i a b = rw (missing i (omega arith))
+  enough (suc f) (suc g) i a b =
+      let o : 1 ≤ sizeAt s i = size-some s i in
+      ap (λ (x : Script). scriptStep (numberAt p K s i) s i x) (enough f g (i + sizeAt s i) (omega arith) (omega arith))

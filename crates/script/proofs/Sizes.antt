@@ -1,0 +1,70 @@
+-- The command at a place by its byte: which it is, and the bytes that it takes.
+-- Assumes nothing.
+use mathlib.Core.Path.{_≡_}
+use mathlib.Core.Logic.{_≢_}
+use mathlib.Core.Bool.{Bool, true, _&&_, cond}
+use mathlib.Core.List.{List, [], _∷_}
+use Prim.Native.Nat.{ℕ, zero, suc, _+_, _-_, _≤_, _<_}
+use native.Mathlib.Omega.{arith}
+use borrow.Author.Tests.{le-ltb, ne-eqb}
+use lib.Dec.{T, ltb, leb, eqb, leb→le, eqb→eq}
+use lib.ListN.{length, getD}
+use Rattle.algebra.proofs.Tests.{and-left, and-right, every, every-at}
+use Rattle.model.specs.Bytes.{number}
+use Rattle.model.specs.Script.{Command, END, LOAD, CONST, ADD, SUB, SCALE, MUL, MOD, TRUNC, LTZ, OVER, BLOCKS, REVEAL, BITLT, sizes, sizeAt, commandAt}
+
+-- the commands that may stand at a place, by their bytes
+abbrev pub commands : List ℕ → ℕ → List Command
+commands s i =
+    let o : ℕ → ℕ = λ j. getD s (i + j) 0 in
+    let v : ℕ → ℕ = λ j. number 4 s (i + j) in
+    END ∷ LOAD (o 1) ∷ CONST (o 1) (v 2) ∷ ADD (o 1) (o 2) (o 3) ∷ SUB (o 1) (o 2) (o 3) ∷ SCALE (o 1) (o 2) (v 3) ∷ MUL (o 1) (o 2) (o 3)
+    ∷ MOD (o 1) (o 2) (o 3) (o 4) ∷ TRUNC (o 1) (o 2) (o 3) (o 4) ∷ LTZ (o 1) (o 2) (o 3) ∷ OVER (o 1) (o 2) (o 3) (v 4)
+    ∷ BLOCKS (o 1) (o 2) (o 3) (o 4) ∷ REVEAL (o 1) ∷ BITLT (o 1) (o 2) (o 3) (v 4) ∷ []
+
+pub command-at-byte : (s : List ℕ) (i k : ℕ) {op : ℕ} → op ≡ getD s i 0 → op ≡ k → commandAt s i ≡ getD (commands s i) k END
+unfolding commandAt
+command-at-byte s i k e f = let g : getD s i 0 ≡ k = cc in rw g
+
+-- a command takes a byte at least
+noZero : List ℕ → Bool
+noZero [] = true
+noZero (x ∷ xs) = leb 1 x && noZero xs
+
+positive : (xs : List ℕ) → T (noZero xs) → (k : ℕ) → 1 ≤ getD xs k 1
+unfolding noZero
+positive [] t k = omega arith
+positive (x ∷ xs) t zero = leb→le 1 x (and-left (leb 1 x) _ t)
+positive (x ∷ xs) t (suc k) = positive xs (and-right (leb 1 x) _ t) k
+
+pub size-some : (s : List ℕ) (i : ℕ) → 1 ≤ sizeAt s i
+unfolding sizeAt noZero
+size-some s i = positive sizes tt (getD s i 0)
+
+-- the default does not matter at a command byte
+pub size-known : (k : ℕ) → k ≤ 13 → getD sizes k 0 ≡ getD sizes k 1
+size-known k h = eqb→eq _ _ (every-at 14 (λ j. eqb (getD sizes j 0) (getD sizes j 1)) tt k (omega arith))
+
+-- the first j bytes of a command whose byte is k stand within the script
+pub room : (s : List ℕ) (i k j : ℕ) {op : ℕ} → T (leb j (getD sizes k 1)) → op ≡ getD s i 0 → op ≡ k → i + sizeAt s i ≤ length s → i + j ≤ length s
+unfolding sizeAt
+room s i k j t e f h = let g : getD s i 0 ≡ k = cc in omega (arith, leb→le j (getD sizes k 1) t, rw g at h)
+
+-- and so do the first four, unless it is END, LOAD, CONST or REVEAL
+long : ℕ → Bool
+long k = cond (ltb k 3) true (cond (eqb k 12) true (leb 4 (getD sizes k 1)))
+
+pub room-long : (s : List ℕ) (i : ℕ) {op : ℕ} → op ≡ getD s i 0 → 3 ≤ op → op ≤ 13 → op ≢ 12 → i + sizeAt s i ≤ length s → i + 4 ≤ length s
+unfolding sizeAt long
+room-long s i {op} e l m n h =
+    let t : T (leb 4 (getD sizes op 1)) = rw (le-ltb op 3 l, ne-eqb op 12 n) at (every-at 14 long tt op (omega arith)) in
+    omega (arith, leb→le 4 (getD sizes op 1) t, rw (← e) at h)
+
+-- the size that the code takes from its table
+module _ (s : List ℕ) (i : ℕ) {op size : ℕ} (e : op ≡ getD s i 0) (f : size ≡ getD sizes op 1) where
+  pub size-is : size ≡ sizeAt s i
+  unfolding sizeAt
+  size-is = rw (← e) f
+
+  pub fits : i < length s → size ≤ length s - i → i + sizeAt s i ≤ length s
+  fits h m = rw (← size-is) (omega arith)

@@ -1,0 +1,24 @@
+-- What stands at a place of a script, as the decoder has to answer it.
+-- Assumes nothing.
+use mathlib.Core.List.{List}
+use Prim.Native.Nat.{ℕ, zero, suc, _+_}
+use Rattle.model.specs.Script as Paper
+use Rattle.script.specs.Meaning.{meant}
+use Rattle.script.specs.declared.command.Decoded.{Decoded}
+use Rattle.script.specs.declared.command.Decoded.the-variants.{Command as Found, Refused}
+
+-- the paper's command and the place after it, or the paper's number of a refusal, which is not 0
+pub data Reading : Type 0 where
+  command : Paper.Command → ℕ → Reading
+  refusal : ℕ → Reading
+
+abbrev pub readingOf : Decoded → Reading
+readingOf (Found c next) = command (meant c) next
+readingOf (Refused number) = refusal number
+
+abbrev pub reading : ℕ → Paper.Command → ℕ → Reading
+reading zero c next = command c next
+reading (suc number) c next = refusal (suc number)
+
+unfoldable pub readingAt : ℕ → ℕ → List ℕ → ℕ → Reading
+readingAt p K s i = reading (Paper.numberAt p K s i) (Paper.commandAt s i) (i + Paper.sizeAt s i)

@@ -1,0 +1,100 @@
+-- `masked::by_sign` is safe: the triples that LTZ reads are there, and its openings have room.
+-- Assumes nothing.
+use borrow.Author.Needs.{needs}
+use native.Mathlib.Omega.{arith}
+use Rattle.step_cases.proofs.masked.by_sign.Statement.{statement}
+use Rattle.step_cases.proofs.masked.by_sign.Tie as tie
+
+returns : tie.Need-returns
+returns c = search needs
+
+sub-m : tie.Need-sub-m
+sub-m c = search needs
+
+returns-2 : tie.Need-returns-2
+returns-2 c = search needs
+
+mul-triples : tie.Need-mul-triples
+mul-triples c = search needs
+
+add-triples : tie.Need-add-triples
+add-triples c = search needs
+
+sub-triples : tie.Need-sub-triples
+sub-triples c = search needs
+
+sub-if3 : tie.Need-sub-if3
+sub-if3 c = search needs
+
+mul-times : tie.Need-mul-times
+mul-times c = search needs
+
+times-requires : tie.Need-times-requires
+times-requires c κs = search needs
+
+returns-3 : tie.Need-returns-3
+returns-3 c = search needs
+
+add-times : tie.Need-add-times
+add-times c = search needs
+
+times-requires-2 : tie.Need-times-requires-2
+times-requires-2 c κs = search needs
+
+add-total : tie.Need-add-total
+add-total c = search needs
+
+returns-4 : tie.Need-returns-4
+returns-4 c = search needs
+
+slice-aggregate-sign-row : tie.Need-slice-aggregate-sign-row
+slice-aggregate-sign-row c = search needs
+
+sign-row-requires : tie.Need-sign-row-requires
+sign-row-requires c κs = (
+  c .before .before .before .before .before .before .before .before .pre .0,
+  c .before .before .before .before .before .before .before .before .pre .1,
+  c .before .before .before .before .before .before .before .before .pre .3,
+  c .before .before .before .before .before .before .before .before .pre .4,
+  omega (arith, c .before .before .before .before .before .before .if1),
+  c .before .before .before .before .before .before .before .before .pre .5,
+  c .before .before .before .before .before .before .before .before .pre .6,
+  omega (arith, c .before .before .before .before .before .if2),
+  c .before .before .before .before .before .before .before .before .pre .2,
+  c .before .before .before .before .before .before .before .before .pre .7,
+  omega (arith, c .before .before .before .before .times .ensures, c .before .before .before .if3, c .before .before .before .before .before .before .before .before .pre .8),
+  omega (arith, c .before .before .times2 .ensures, c .before .if4),
+)
+
+slice-aggregate-answer : tie.Need-slice-aggregate-answer
+slice-aggregate-answer c = search needs
+
+answer-requires : tie.Need-answer-requires
+answer-requires c κs = search needs
+
+returns-5 : tie.Need-returns-5
+returns-5 c = search needs
+
+pub by-sign-spec : {M : Type 1} → statement M
+by-sign-spec =
+    tie.close
+    (tie.spec
+    returns
+    sub-m
+    returns-2
+    mul-triples
+    add-triples
+    sub-triples
+    sub-if3
+    mul-times
+    times-requires
+    returns-3
+    add-times
+    times-requires-2
+    add-total
+    returns-4
+    slice-aggregate-sign-row
+    sign-row-requires
+    slice-aggregate-answer
+    answer-requires
+    returns-5)
