@@ -1,9 +1,11 @@
--- Lists of numbers: every number below a bound, runs of numbers, sums, and what a lent list holds after a write at its start.
+-- Lists: every number below a bound, no number twice, the same numbers, the first element, runs of numbers, sums, and what a lent list
+-- holds after a write at its start.
 -- Assumes nothing.
-use mathlib.Core.Bool.{Bool, true, _&&_}
-use mathlib.Core.List.{List, [], _∷_, _++_}
+use mathlib.Core.Logic.{_≢_}
+use mathlib.Core.Bool.{Bool, true, false, _&&_}
+use mathlib.Core.List.{List, [], _∷_, _++_, List·Memᴰ as In}
 use Prim.Native.Nat.{ℕ, zero, suc, _+_, _<_}
-use lib.Dec.{ltb}
+use lib.Dec.{ltb, eqb}
 use lib.ListN.{length, getD, drop}
 
 -- every number of xs is below p
@@ -19,6 +21,27 @@ allBelow p (x ∷ xs) = ltb x p && allBelow p xs
 pub data All {A : Type 0} (P : A → Type 0) : List A → Type 0 where
   none : All P []
   one : {x : A} {xs : List A} → P x → All P xs → All P (x ∷ xs)
+
+-- no number stands twice in the list
+abbrev pub Distinct : List ℕ → Type 0
+Distinct [] = Unit {0}
+Distinct (x ∷ xs) = ((z : ℕ) → In z xs → z ≢ x) × Distinct xs
+
+-- two lists are the same
+unfoldable pub sameList : List ℕ → List ℕ → Bool
+sameList [] [] = true
+sameList [] (y ∷ ys) = false
+sameList (x ∷ xs) [] = false
+sameList (x ∷ xs) (y ∷ ys) = eqb x y && sameList xs ys
+
+-- the first of a list, or another where it has none; and the others
+abbrev pub first : {A : Type 0} → A → List A → A
+first d [] = d
+first d (x ∷ xs) = x
+
+abbrev pub others : {A : Type 0} → List A → List A
+others [] = []
+others (x ∷ xs) = xs
 
 -- k, k + 1, .., k + m - 1
 unfoldable pub from : ℕ → ℕ → List ℕ

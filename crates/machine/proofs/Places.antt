@@ -6,10 +6,11 @@ use Prim.Native.Nat.{ℕ, zero, suc, _+_, _-_, _*_, _^_, _≤_, _<_}
 use native.Mathlib.Nat.{mul-le-mul-right}
 use native.Mathlib.Omega.{arith}
 use lib.ListN.{length, getD, drop}
+use Rattle.algebra.specs.Lists.{first}
 use Rattle.model.specs.Bytes.{rowAt}
 use Rattle.model.specs.Fields as Fields
 use Rattle.model.specs.Sheet.{rowsAt, masksFrom, triplesFrom}
-use Rattle.model.specs.Steps.{Row, first}
+use Rattle.model.specs.Steps.{Row}
 use Rattle.model.specs.Run.{noRow}
 use Rattle.model.proofs.Fields.{fields}
 use Rattle.sheet.specs.declared.frame.Frame.{Frame}
@@ -21,14 +22,11 @@ fits k a c b h = let m : (a + c) * k ≤ b * k = mul-le-mul-right k h in omega a
 
 bits-most : (i : ℕ) → i < 4 → Fields.bits i ≤ 31
 unfolding Fields.bits
-bits-most i h = every-at-most i h
-  where
-    every-at-most : (i : ℕ) → i < 4 → getD Fields.bitLengths i 0 ≤ 31
-    every-at-most zero h = omega arith
-    every-at-most (suc zero) h = omega arith
-    every-at-most (suc (suc zero)) h = omega arith
-    every-at-most (suc (suc (suc zero))) h = omega arith
-    every-at-most (suc (suc (suc (suc i)))) h = absurd (omega arith)
+bits-most zero h = omega arith
+bits-most (suc zero) h = omega arith
+bits-most (suc (suc zero)) h = omega arith
+bits-most (suc (suc (suc zero))) h = omega arith
+bits-most (suc (suc (suc (suc i)))) h = absurd (omega arith)
 
 module _ {s : List ℕ} {f : Frame} (F : Framed s f) where
   pub n-most : f .n ≤ 7

@@ -11,7 +11,7 @@ use lib.Dec.{T, ltb, leb, ltb→lt, leb→le}
 use lib.ListN.{length, set, take, drop, length-drop}
 use lib.Seq.{take-all}
 use lib.Pow.{pow-mono}
-use Rattle.algebra.specs.Lists.{over}
+use Rattle.algebra.specs.Lists.{over, first}
 use Rattle.algebra.proofs.Tests.{and-left, and-right}
 use Rattle.model.specs.Fields as Fields
 use Rattle.model.specs.Script.{Command, MUL, MOD, TRUNC, LTZ, OVER, BLOCKS, REVEAL, BITLT, inRanges, register, kIn, mIn}
@@ -19,7 +19,7 @@ use Rattle.model.specs.Costs.{cost}
 use Rattle.model.specs.Sheet.{rowsAt, triplesFrom}
 use Rattle.model.specs.Bytes.{sevens}
 use Rattle.model.specs.Sharing.{secret}
-use Rattle.model.specs.Steps.{Setting, Row, Deal, Step, first, value, comparison}
+use Rattle.model.specs.Steps.{Setting, Row, Deal, Step, value, comparison}
 use Rattle.model.specs.Run as Run
 use Rattle.model.proofs.Acceptance.{wider}
 use Rattle.model.proofs.Taking.{Took, took-comparison}

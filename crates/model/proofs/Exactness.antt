@@ -1,22 +1,19 @@
 -- Exactness and counts of whole runs: by the states that a run passes through.
 -- Assumes nothing.
-use mathlib.Core.Path.{_≡_, refl, sym, ap, subst, _∙_}
-use mathlib.Core.Bool.{Bool, true, false}
-use mathlib.Core.List.{List, [], _∷_, _++_, append-assoc, append-nil, List·Memᴰ as In, List·Memᴰ·head as here}
-use Prim.Native.Nat.{ℕ, zero, suc, _+_, _*_, _≤_, _<_}
+use mathlib.Core.Path.{_≡_, refl, sym, ap, _∙_}
+use mathlib.Core.List.{List, [], _∷_, _++_, append-assoc, List·Memᴰ as In, List·Memᴰ·head as here}
+use Prim.Native.Nat.{ℕ, zero, suc, _+_, _*_}
 use native.Mathlib.Omega.{arith}
-use lib.Dec.{T}
-use lib.ListN.{length, getD, set, take, drop, replicate, length-append}
+use lib.ListN.{getD, replicate}
 use lib.Seq.{getD-set-other}
-use Rattle.algebra.specs.Lists.{All, none, one}
-use Rattle.model.specs.Fields.{largestK}
+use Rattle.algebra.specs.Lists.{All, one}
 use Rattle.model.specs.Steps.{Setting, Row, Deal}
-use Rattle.model.specs.Script.{Command, END, LOAD, CONST, ADD, SUB, SCALE, MUL, MOD, TRUNC, LTZ, OVER, BLOCKS, REVEAL, BITLT, Line, accepted}
+use Rattle.model.specs.Script.{Command, END, LOAD, CONST, ADD, SUB, SCALE, MUL, MOD, TRUNC, LTZ, OVER, BLOCKS, REVEAL, BITLT, Line}
 use Rattle.model.specs.Costs.{Cost, cost}
-use Rattle.model.specs.Sheet.{headerOf, settingOf, scriptIn, inputIn, dealIn, secrets}
-use Rattle.model.specs.Run.{Supply, State, Stop, noRow, check, pay, put, perform, finish, nothingSpent, start, orElse, runLines, written, supplyOf, runScript, sheetScript, stopOf}
+use Rattle.model.specs.Sheet.{secrets}
+use Rattle.model.specs.Run.{Supply, State, noRow, check, pay, put, perform, finish, nothingSpent, start, orElse, runLines, runScript, stopOf}
 use Rattle.model.specs.Plain.{plainly}
-use Rattle.model.specs.Exactness.{Accepted, Passes, begins, goes, Right, sumOf, Counted, Stops, at-end, at-line, Stopped, Exactly, Exactness}
+use Rattle.model.specs.Exactness.{Passes, begins, goes, Right, sumOf, Counted, at-end, at-line, Stopped, Exactness}
 use Rattle.model.proofs.Written.{length-written}
 use Rattle.model.proofs.Held.{Holds, holds-start, check-passed}
 use Rattle.model.proofs.Running.{Given, finish-holds}
@@ -139,13 +136,13 @@ keeps S input (BITLT d b w v) s r k = getD-set-other (s .registers) d r _ noRow 
 
 pub exactness : Exactness
 unfolding stopOf runScript
-exactness sheet log shown xs end A =
+exactness sheet log shown A =
     let Q = sound sheet (A .number) in
     let G = given sheet Q log shown in
-    let ok = lines-ok _ _ _ xs end (A .script) in
+    let ok = lines-ok _ _ _ (A .lines) (A .end) (A .script) in
     record {
-      right = λ ys s vs p. right G xs ok p;
-      counted = λ ys s vs p. counted G xs ok p;
+      right = λ ys s vs p. right G (A .lines) ok p;
+      counted = λ ys s vs p. counted G (A .lines) ok p;
       keeps = λ x ys s vs p. keeps _ _ (x .command) s;
-      stops = rw (A .number, A .script) (stopped G xs ok end xs begins);
+      stops = rw (A .number, A .script) (stopped G (A .lines) ok (A .end) (A .lines) begins);
     }

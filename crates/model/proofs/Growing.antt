@@ -5,7 +5,8 @@ use mathlib.Core.Bool.{cond}
 use mathlib.Core.List.{List, [], _∷_, _++_, append-assoc, append-nil}
 use Prim.Native.Nat.{ℕ, zero, suc, _+_, _-_, _/_, _%_, _^_}
 use lib.ListN.{getD, set, take}
-use Rattle.model.specs.Steps.{Setting, Row, Triple, Deal, Step, others, odd, plus, minus, times, constant, chosen, comparisonFrom, comparison, unmasked, remainder, quotient, floor, sign, over, blocks}
+use Rattle.algebra.specs.Lists.{others}
+use Rattle.model.specs.Steps.{Setting, Row, Triple, Deal, Step, odd, plus, minus, times, constant, chosen, comparisonFrom, comparison, unmasked, remainder, quotient, floor, sign, over, blocks}
 use Rattle.model.specs.Steps as Steps
 use Rattle.model.specs.Script.{Command, END, LOAD, CONST, ADD, SUB, SCALE, MUL, MOD, TRUNC, LTZ, OVER, BLOCKS, REVEAL, BITLT, Line}
 use Rattle.model.specs.Costs.{cost}

@@ -7,7 +7,6 @@ pub mod Extrapolation
 pub mod Coefficients
 pub mod Entries
 pub mod Shamir
-pub mod Examples
 pub mod Bits
 pub mod Comparing
 pub mod Unmasking
@@ -34,7 +33,3 @@ pub mod Veiling
 pub mod Veil
 pub mod MadeSheets
 pub mod Secrecy
-pub mod Printed
-pub mod Figures
-pub mod Witness
-pub mod TwinSheets

@@ -1,36 +1,31 @@
 -- The run of a sheet that is made of header, script, input and a well-formed deal: it is the run of the script's lines on them.
 -- Assumes nothing.
-use mathlib.Core.Path.{_≡_, refl, sym, ap, subst, _∙_}
-use mathlib.Core.Bool.{Bool, true, false, _&&_}
-use mathlib.Core.List.{List, [], _∷_, _++_, List·Memᴰ as In, List·Memᴰ·head as here, List·Memᴰ·tail as there}
-use Prim.Native.Nat.{ℕ, zero, suc, _+_, _*_, _^_, _≤_, _<_}
+use mathlib.Core.Path.{_≡_, sym, subst, _∙_}
+use mathlib.Core.Bool.{Bool, _&&_}
+use mathlib.Core.List.{List, _++_, List·Memᴰ as In, List·Memᴰ·head as here, List·Memᴰ·tail as there}
+use Prim.Native.Nat.{ℕ, suc, _+_, _<_}
 use native.Mathlib.Omega.{arith}
-use lib.Dec.{T, ltb, leb, eqb, ltb→lt, lt→ltb, leb→le, le→leb, eqb→eq, eqb-refl}
-use lib.ListN.{length, getD, take}
-use Rattle.algebra.specs.Ring.{mul}
-use Rattle.algebra.specs.Lists.{All, none, one, Below, allBelow}
-use Rattle.algebra.specs.Rows.{row}
+use lib.Dec.{T, ltb, leb, eqb, lt→ltb, leb→le, le→leb, eqb-refl}
+use lib.ListN.{length, take}
+use Rattle.algebra.specs.Lists.{All, none, one, allBelow}
 use Rattle.algebra.proofs.Lists.{all-below}
 use Rattle.algebra.proofs.Rows.{length-tab, getD-tab, take-row, row-at, row-again}
-use Rattle.algebra.proofs.Tests.{and-left, and-right, and-both, is-true}
-use Rattle.model.specs.Fields.{Field, Modulus, Parties, modulus, bits, largestK, parties}
-use Rattle.model.specs.Sharing.{eval, share, Sharing, secret, isSharing}
-use Rattle.model.specs.Entries.{tried}
-use Rattle.model.specs.Steps.{Setting, Row, Triple, Deal}
-use Rattle.model.specs.Script.{Line, Script, accepted, scriptOf}
-use Rattle.model.specs.Sheet.{Header, headerOf, settingOf, limits, impliedLength, scriptIn, inputIn, dealIn, all, maskRows, tripleRows, dealRows, secrets, spell, goodMask, goodTriple, sharesBelow, aSharing, sheetNumber, sheetOf}
-use Rattle.model.specs.Making.{SheetRow, Parts, Making}
-use Rattle.model.specs.Run.{Supply, Stop, start, runLines, outcome, supplyOf, runScript, sheetScript, stopOf, run}
-use Rattle.model.specs.Exactness.{Accepted}
+use Rattle.algebra.proofs.Tests.{and-left, and-right, and-both}
+use Rattle.model.specs.Fields.{Modulus, Parties, modulus, largestK, parties}
+use Rattle.model.specs.Sharing.{share, Sharing}
+use Rattle.model.specs.Steps.{Row, Deal}
+use Rattle.model.specs.Script.{Line, accepted, scriptOf}
+use Rattle.model.specs.Sheet.{Header, settingOf, limits, impliedLength, all, dealRows, goodMask, goodTriple, sharesBelow, aSharing, sheetNumber, sheetOf}
+use Rattle.model.specs.Making.{SheetRow, Parts, Says}
+use Rattle.model.specs.Run.{start, runLines, outcome, supplyOf, runScript, sheetScript, stopOf, run}
 use Rattle.model.specs.Secrecy.{WellFormed}
 use Rattle.model.proofs.Fields.{fields, parties-test}
 use Rattle.model.proofs.Entries.{pass}
 use Rattle.model.proofs.Polynomials.{positive, eval-lt}
 use Rattle.model.proofs.Sharings.{test-exact}
 use Rattle.model.proofs.Making.{making}
-use Rattle.model.proofs.SheetDeal.{shape-in}
 use Rattle.model.proofs.Taking.{all-append}
-use Rattle.model.proofs.Acceptance.{Sound, sound, all-map, all-left, all-right, InRange, lines-ok}
+use Rattle.model.proofs.Acceptance.{all-map}
 
 -- what an accepted sheet says of its header, script and input
 pub record Facts (h : Header) (script : List ℕ) (input : List Row) (xs : List Line) (end : ℕ) : Type 0 where
@@ -71,6 +66,9 @@ module _ {h : Header} {script : List ℕ} {input : List Row} {xs : List Line} {e
   M : Modulus (modulus (h .field))
   M = fields (h .field) (F .field) .modulus-is
 
+  rows-are : All (Sharing (modulus (h .field)) (h .n) (h .t)) (input ++ dealRows d)
+  rows-are = all-append (F .sharings) (W .sharings)
+
   parts : Parts h script input d
   unfolding limits
   parts =
@@ -93,22 +91,18 @@ module _ {h : Header} {script : List ℕ} {input : List Row} {xs : List Line} {e
         masks-length = W .masks;
         triples-length = W .triples;
         mask-lengths = all-in (W .bits-each);
-        input-rows = λ x m. sheet-row M (F .people) (all-in (F .sharings) x m);
-        deal-rows = λ x m. sheet-row M (F .people) (all-in (W .sharings) x m);
+        rows = λ x m. sheet-row M (F .people) (all-in rows-are x m);
       }
 
-  header-is : headerOf (sheetOf h script input d) ≡ h
-  header-is = making .header-is h script input d parts
-
-  rows-are : All (Sharing (modulus (h .field)) (h .n) (h .t)) (input ++ dealRows d)
-  rows-are = all-append (F .sharings) (W .sharings)
+  says : Says (sheetOf h script input d) h script input d
+  says = making .reading-undoes h script input d parts
 
   not-refused : sheetNumber (sheetOf h script input d) ≡ 0
   unfolding sheetNumber
   not-refused =
       let S = settingOf h in
       let rows = input ++ dealRows d in
-      rw (header-is, making .input-is h script input d parts, making .deal-is h script input d parts, making .length-is h script input d parts)
+      rw (says .header-is, says .input-is, says .deal-is, says .length-is)
       (pass (leb 11 (impliedLength h)) 1 _ long
       ∙ pass (ltb (h .field) 4) 2 _ (lt→ltb (h .field) 4 (F .field))
       ∙ pass (parties (h .n) (h .t)) 3 _ (parties-test (F .people))
@@ -122,15 +116,15 @@ module _ {h : Header} {script : List ℕ} {input : List Row} {xs : List Line} {e
       long = le→leb 11 (impliedLength h) (unfold impliedLength in omega arith)
 
   script-read : sheetScript (sheetOf h script input d) ≡ accepted xs end
-  script-read = rw (header-is, making .script-is h script input d parts) (F .script-is)
+  script-read = rw (says .header-is, says .script-is) (F .script-is)
 
   pub made-stop : (log shown : ℕ) → stopOf (sheetOf h script input d) log shown
       ≡ runLines (settingOf h) (supplyOf h log shown) input end xs (start d)
   unfolding stopOf runScript
   made-stop log shown =
-      rw (not-refused, script-read, header-is, making .input-is h script input d parts, making .deal-is h script input d parts)
+      rw (not-refused, script-read, says .header-is, says .input-is, says .deal-is)
 
   pub made-run : (a b : List ℕ) → run (sheetOf h script input d) a b
       ≡ outcome (h .n) a b (runLines (settingOf h) (supplyOf h (length a) (length b)) input end xs (start d))
   unfolding run
-  made-run a b = rw (header-is, made-stop (length a) (length b))
+  made-run a b = rw (says .header-is, made-stop (length a) (length b))

@@ -1,8 +1,7 @@
 -- `making`: a sheet's bytes and its parts say the same.
 -- Assumes nothing.
 use mathlib.Core.Path.{_≡_, refl, sym, _∙_}
-use mathlib.Core.Logic.{⊎-elim}
-use mathlib.Core.List.{List, [], _++_, append-assoc, append-nil, List·Memᴰ·append-cases, Memᴰ·append-left, Memᴰ·append-right}
+use mathlib.Core.List.{List, [], _++_, append-assoc, append-nil}
 use Prim.Native.Nat.{ℕ, _+_, _*_, _≤_, _<_}
 use native.Mathlib.Omega.{arith}
 use lib.ListN.{length, drop, length-append, length-drop, take-append-drop, drop-of-length-le}
@@ -10,9 +9,9 @@ use lib.Seq.{length-take-le, take-at, drop-drop, drop-cons}
 use Rattle.algebra.specs.Lists.{Below}
 use Rattle.model.specs.Steps.{Row, Deal}
 use Rattle.model.specs.Sheet.{Header, headerOf, inputsAt, impliedLength, scriptIn, inputIn, dealIn, dealRows, bytesOf, rowBytes, headerBytes, sheetOf}
-use Rattle.model.specs.Making.{Parts, Making}
+use Rattle.model.specs.Making.{Parts, Says, Making}
 use Rattle.model.proofs.LittleEndian.{past, number-read, byte, number-fits, number-written}
-use Rattle.model.proofs.SheetRows.{SheetRows, length-rows, rows-append, rows-read, rows-written, rows-fit}
+use Rattle.model.proofs.SheetRows.{length-rows, rows-append, rows-read, rows-written, rows-fit}
 use Rattle.model.proofs.SheetDeal.{rowCount, implied, all-rows, Shape, shape-in, length-all, same}
 
 -- the rows of input and deal together
@@ -26,9 +25,6 @@ module _ (h : Header) (script : List ℕ) (input : List Row) (d : Deal) (P : Par
   shape : Shape h input d
   shape = record { inputs = P .inputs-length; masks = P .masks-length; triples = P .triples-length; each = P .mask-lengths }
 
-  rows : SheetRows (h .n) (input ++ dealRows d)
-  rows x m = ⊎-elim (P .input-rows x) (P .deal-rows x) (List·Memᴰ·append-cases input m)
-
   script-at : drop 11 (sheetOf h script input d) ≡ script ++ rowBytes (h .n) (input ++ dealRows d)
   unfolding headerBytes bytesOf
   script-at = rw together
@@ -36,7 +32,7 @@ module _ (h : Header) (script : List ℕ) (input : List Row) (d : Deal) (P : Par
   length-is : length (sheetOf h script input d) ≡ impliedLength h
   unfolding headerBytes bytesOf
   length-is =
-      rw (together, implied, length-append, length-append, length-rows (h .n) (input ++ dealRows d) rows, length-all shape, P .script-length)
+      rw (together, implied, length-append, length-append, length-rows (h .n) (input ++ dealRows d) (P .rows), length-all shape, P .script-length)
       (omega arith)
 
   header-is : headerOf (sheetOf h script input d) ≡ h
@@ -57,7 +53,7 @@ module _ (h : Header) (script : List ℕ) (input : List Row) (d : Deal) (P : Par
   parts-are =
       let s = sheetOf h script input d in
       let at = past s 11 (h .script) script _ script-at (P .script-length) in
-      let read = rows-read s (h .n) (inputsAt h) (input ++ dealRows d) [] rows (at ∙ sym (append-nil _)) in
+      let read = rows-read s (h .n) (inputsAt h) (input ++ dealRows d) [] (P .rows) (at ∙ sym (append-nil _)) in
       same (shape-in h s) shape (all-rows h s ∙ (rw (length-all shape) at read))
 
 header-written : (s : List ℕ) → Below 256 s → 11 ≤ length s → s ≡ headerBytes (headerOf s) ++ drop 11 s
@@ -76,9 +72,6 @@ header-written s b l =
 
 -- making undoes reading
 module _ (s : List ℕ) (b : Below 256 s) (e : length s ≡ impliedLength (headerOf s)) (n-fits : headerOf s .n < 8) where
-  rows-fitting : SheetRows (headerOf s .n) (inputIn (headerOf s) s ++ dealRows (dealIn (headerOf s) s))
-  rows-fitting = rw all-rows (rows-fit s b _ _ _)
-
   parts-fit : Parts (headerOf s) (scriptIn (headerOf s) s) (inputIn (headerOf s) s) (dealIn (headerOf s) s)
   unfolding headerOf scriptIn
   parts-fit =
@@ -96,8 +89,7 @@ module _ (s : List ℕ) (b : Below 256 s) (e : length s ≡ impliedLength (heade
         masks-length = S .masks;
         triples-length = S .triples;
         mask-lengths = S .each;
-        input-rows = λ x m. rows-fitting x (Memᴰ·append-left _ m);
-        deal-rows = λ x m. rows-fitting x (Memᴰ·append-right (inputIn (headerOf s) s) m);
+        rows = rw all-rows (rows-fit s b _ _ _);
       }
 
   sheet-is : sheetOf (headerOf s) (scriptIn (headerOf s) s) (inputIn (headerOf s) s) (dealIn (headerOf s) s) ≡ s
@@ -109,13 +101,25 @@ module _ (s : List ℕ) (b : Below 256 s) (e : length s ≡ impliedLength (heade
       let rest = rw (none, append-nil) at written in
       rw (together, all-rows, ← rest, ← drop-drop, take-append-drop) (sym (header-written s b (omega (arith, implied (headerOf s)))))
 
+-- the same of any parts that the bytes say
+undoes : (s : List ℕ) → Below 256 s → (h : Header) (script : List ℕ) (input : List Row) (d : Deal) → Says s h script input d → h .n < 8
+    → Parts h script input d × (sheetOf h script input d ≡ s)
+undoes s b h script input d R n-fits =
+    rw (← R .script-is, ← R .input-is, ← R .deal-is, ← R .header-is)
+    (let e = rw (← R .header-is) at (R .length-is) in
+    let f = rw (← R .header-is) at n-fits in
+    (parts-fit s b e f, sheet-is s b e f))
+
 pub making : Making
-making = record {
-  length-is = length-is;
-  header-is = header-is;
-  script-is = script-is;
-  input-is = λ h script input d P. parts-are h script input d P .0;
-  deal-is = λ h script input d P. parts-are h script input d P .1;
-  parts-fit = parts-fit;
-  sheet-is = sheet-is;
-}
+making =
+    record {
+      reading-undoes = λ h script input d P.
+          record {
+            length-is = length-is h script input d P;
+            header-is = header-is h script input d P;
+            script-is = script-is h script input d P;
+            input-is = parts-are h script input d P .0;
+            deal-is = parts-are h script input d P .1;
+          };
+      making-undoes = undoes;
+    }

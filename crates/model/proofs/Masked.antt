@@ -8,10 +8,10 @@ use native.Mathlib.Omega.{arith}
 use lib.ListN.{length, take}
 use lib.Pow.{pow-pos, pow-mono}
 use Rattle.algebra.specs.Ring.{add, sub, mul}
-use Rattle.algebra.specs.Lists.{All, none, one}
+use Rattle.algebra.specs.Lists.{All, none, one, first}
 use Rattle.model.specs.Fields.{Field, Parties, inversePowerOf2}
 use Rattle.model.specs.Sharing.{Sharing}
-use Rattle.model.specs.Steps.{Setting, Row, Deal, Step, first, lessMask, plus, minus, times, nextMask, stepC, stepF, stepU0, stepU1, unmasked, remainder, quotient, floor, sign, over, blocks}
+use Rattle.model.specs.Steps.{Setting, Row, Deal, Step, lessMask, plus, minus, times, nextMask, stepC, stepF, stepU0, stepU1, unmasked, remainder, quotient, floor, sign, over, blocks}
 use Rattle.model.specs.Sheet.{secrets}
 use Rattle.model.specs.Plain.{less, rem, quot, negative, exceeds, charged}
 use Rattle.model.proofs.Unmasking.{spelt, unmask, Masking, unmask-is}

@@ -8,11 +8,11 @@ use native.Mathlib.Omega.{arith}
 use lib.Dec.{T, ltb, leb, ltb→lt, leb→le}
 use lib.ListN.{length, getD, set, drop, length-append, length-drop}
 use Rattle.algebra.specs.Ring.{add, sub, mul}
-use Rattle.algebra.specs.Lists.{All, none, one, from}
+use Rattle.algebra.specs.Lists.{All, none, one, from, first}
 use Rattle.algebra.proofs.Tests.{and-left, and-right, is-true}
 use Rattle.model.specs.Fields.{Field, Parties}
 use Rattle.model.specs.Sharing.{Sharing}
-use Rattle.model.specs.Steps.{Setting, Row, Triple, Deal, Step, first, value}
+use Rattle.model.specs.Steps.{Setting, Row, Triple, Deal, Step, value}
 use Rattle.model.specs.Script.{Command, END, LOAD, CONST, ADD, SUB, SCALE, MUL, MOD, TRUNC, LTZ, OVER, BLOCKS, REVEAL, BITLT, register, kIn, mIn, inRanges}
 use Rattle.model.specs.Costs.{Cost, cost}
 use Rattle.model.specs.Sheet.{secrets}

@@ -1,33 +1,31 @@
 -- Demand 3 about sheets, from the theorem over rows: two accepted sheets with one header and one script, their parts, and the runs of
 -- sheets made of them.
 -- Assumes nothing.
-use mathlib.Core.Path.{_≡_, refl, sym, ap, ap₂, subst, _∙_}
-use mathlib.Core.List.{List, [], _∷_, _++_, List·Memᴰ as In}
-use Prim.Native.Nat.{ℕ, _+_, _*_, _≤_, _<_}
+use mathlib.Core.Path.{_≡_, sym, ap, ap₂, subst, _∙_}
+use mathlib.Core.List.{List}
+use Prim.Native.Nat.{ℕ}
 use native.Mathlib.Omega.{arith}
 use lib.Dec.{T, eqb, eqb-refl, lt→ltb}
-use lib.ListN.{length, take, drop, length-drop}
+use lib.ListN.{length, drop, length-drop}
 use lib.Seq.{length-take-le}
-use Rattle.algebra.specs.Ring.{mul}
-use Rattle.algebra.specs.Lists.{All, none, one, Below, allBelow}
+use Rattle.algebra.specs.Lists.{All, none, one, allBelow}
 use Rattle.algebra.proofs.Lists.{all-below}
 use Rattle.algebra.proofs.Tests.{and-both}
-use Rattle.model.specs.Fields.{Field, Parties, modulus, bits, largestK}
+use Rattle.model.specs.Fields.{modulus, bits, largestK}
 use Rattle.model.specs.Sharing.{Sharing, secret}
 use Rattle.model.specs.Shamir.{Group}
 use Rattle.model.specs.Steps.{Setting, Row, Triple, Deal}
 use Rattle.model.specs.Script.{Line, accepted, scriptOf}
-use Rattle.model.specs.Sheet.{Header, headerOf, settingOf, impliedLength, scriptIn, inputIn, dealIn, maskRows, tripleRows, dealRows, secrets, spell, goodMask, goodTriple, sheetOf}
-use Rattle.model.specs.Run.{Supply, Stop, start, orElse, runLines, outcome, supplyOf, runScript, sheetScript, stopOf, run}
-use Rattle.model.specs.Exactness.{Accepted}
-use Rattle.model.specs.Secrecy.{WellFormed, Alike, SameTo, runOn, Veil, Twins, Secrecy}
+use Rattle.model.specs.Sheet.{Header, headerOf, settingOf, impliedLength, scriptIn, inputIn, dealIn, maskRows, tripleRows, dealRows, secrets, spell, goodMask, goodTriple, sheetNumber, sheetOf}
+use Rattle.model.specs.Run.{Stop, start, runLines, outcome, supplyOf, runScript, sheetScript, stopOf, run}
+use Rattle.model.specs.Secrecy.{WellFormed, Alike, SameTo, runOn, Secrecy}
 use Rattle.model.proofs.Fields.{fields}
 use Rattle.model.proofs.Shared.{TripleOk}
 use Rattle.model.proofs.Masked.{MaskOk}
 use Rattle.model.proofs.Running.{length-secrets}
 use Rattle.model.proofs.SheetDeal.{shape-in}
 use Rattle.model.proofs.Taking.{all-append}
-use Rattle.model.proofs.Acceptance.{Sound, sound, all-map, all-left, all-right, masks-ok, triples-ok, wider, InRange, lines-ok}
+use Rattle.model.proofs.Acceptance.{sound, all-map, all-left, all-right, masks-ok, triples-ok, wider, lines-ok}
 use Rattle.model.proofs.MadeSheets.{Facts, all-in, made-run}
 use Rattle.model.proofs.Veil.{veiling}
 use Rattle.model.proofs.Veiling.{Formed, SameStop, Veiled, Veiling}
@@ -74,17 +72,17 @@ module _ (h : Header) (log shown : ℕ) where
       }
 
 -- what an accepted sheet says of its parts, and its stop
-module _ (s : List ℕ) (xs : List Line) (end : ℕ) (A : Accepted s xs end) where
+module _ (s : List ℕ) (xs : List Line) (end : ℕ) (number : sheetNumber s ≡ 0) (script : sheetScript s ≡ accepted xs end) where
   pub facts : Facts (headerOf s) (scriptIn (headerOf s) s) (inputIn (headerOf s) s) xs end
   unfolding scriptIn impliedLength
   facts =
-      let Q = sound s (A .number) in
+      let Q = sound s number in
       let h = headerOf s in
       record {
         field = Q .field;
         people = Q .people;
         counts = Q .counts;
-        script-is = A .script;
+        script-is = script;
         script-length = length-take-le (h .script) (drop 11 s) (rw length-drop (omega (arith, Q .size)));
         sharings = all-left (inputIn h s) (dealRows (dealIn h s)) (Q .sharings);
         inputs = shape-in h s .inputs;
@@ -92,7 +90,7 @@ module _ (s : List ℕ) (xs : List Line) (end : ℕ) (A : Accepted s xs end) whe
 
   own-deal : (log shown : ℕ) → Formed (settingOf (headerOf s)) (supplyOf (headerOf s) log shown) (dealIn (headerOf s) s)
   own-deal log shown =
-      let Q = sound s (A .number) in
+      let Q = sound s number in
       let h = headerOf s in
       let d = dealIn h s in
       let rows = all-right (inputIn h s) (dealRows d) (Q .sharings) in
@@ -106,7 +104,7 @@ module _ (s : List ℕ) (xs : List Line) (end : ℕ) (A : Accepted s xs end) whe
   own-stop : (log shown : ℕ) → stopOf s log shown
       ≡ runLines (settingOf (headerOf s)) (supplyOf (headerOf s) log shown) (inputIn (headerOf s) s) end xs (start (dealIn (headerOf s) s))
   unfolding stopOf runScript
-  own-stop log shown = rw (A .number, A .script)
+  own-stop log shown = rw (number, script)
 
 -- stops that a set cannot tell apart leave outcomes that it cannot tell apart
 same-outcome : (set : List ℕ) (n : ℕ) (a b : List ℕ) {x y : Stop} → SameStop set x y → SameTo set (outcome n a b x) (outcome n a b y)
@@ -136,7 +134,7 @@ module _ (theorem : Veiling) (h : Header) (script : List ℕ) (xs : List Line) (
       let field = fields (h .field) (F .field) in
       theorem (settingOf h) (largestK (h .field)) field (wider field) (F .people) (supplyOf h log shown) end xs
       (lines-ok (modulus (h .field)) (largestK (h .field)) script xs end (F .script-is)) set G input input′ (F .sharings) (F′ .sharings)
-      (F .inputs) (F′ .inputs) L d d′ D D′ e
+      L d d′ D D′ e
 
   runs-same : (q : Deal) → WellFormed h q → (a b : List ℕ) → length a ≡ log → length b ≡ shown
       → SameTo set (run (sheetOf h script input q) a b) (run (sheetOf h script input′ (over-rows .to q)) a b)
@@ -160,10 +158,10 @@ secrecy-from theorem set s s′ log shown B q =
     }
   where
     xs : List Line
-    xs = B .lines
+    xs = B .first .lines
 
     e : ℕ
-    e = B .place
+    e = B .first .end
 
     h : Header
     h = headerOf s
@@ -181,36 +179,33 @@ secrecy-from theorem set s s′ log shown B q =
     d′ = dealIn (headerOf s′) s′
 
     -- the second sheet has the first one's lines
-    second : Accepted s′ (B .lines) (B .place)
+    second : sheetScript s′ ≡ accepted (B .first .lines) (B .first .end)
     second =
-        record {
-          number = B .second .number;
-          script = sym (ap₂ (λ (z : Header) (c : List ℕ). scriptOf (settingOf z .p) (largestK (z .field)) c) (B .header) (B .script)) ∙ B .first .script;
-        }
+        sym (ap₂ (λ (z : Header) (c : List ℕ). scriptOf (settingOf z .p) (largestK (z .field)) c) (B .header) (B .script)) ∙ B .first .script
 
-    F : Facts (headerOf s) (scriptIn (headerOf s) s) (inputIn (headerOf s) s) (B .lines) (B .place)
-    F = facts s xs e (B .first)
+    F : Facts (headerOf s) (scriptIn (headerOf s) s) (inputIn (headerOf s) s) (B .first .lines) (B .first .end)
+    F = facts s xs e (B .first .number) (B .first .script)
 
-    F′ : Facts (headerOf s) (scriptIn (headerOf s) s) (inputIn (headerOf s′) s′) (B .lines) (B .place)
+    F′ : Facts (headerOf s) (scriptIn (headerOf s) s) (inputIn (headerOf s′) s′) (B .first .lines) (B .first .end)
     F′ =
-        subst (λ (c : List ℕ). Facts (headerOf s) c (inputIn (headerOf s′) s′) (B .lines) (B .place)) (sym (B .script))
-        (subst (λ (z : Header). Facts z (scriptIn (headerOf s′) s′) (inputIn (headerOf s′) s′) (B .lines) (B .place)) (sym (B .header)) (facts s′ xs e second))
+        subst (λ (c : List ℕ). Facts (headerOf s) c (inputIn (headerOf s′) s′) (B .first .lines) (B .first .end)) (sym (B .script))
+        (subst (λ (z : Header). Facts z (scriptIn (headerOf s′) s′) (inputIn (headerOf s′) s′) (B .first .lines) (B .first .end)) (sym (B .header)) (facts s′ xs e (B .second .number) second))
 
     D : Formed (settingOf (headerOf s)) (supplyOf (headerOf s) log shown) (dealIn (headerOf s) s)
-    D = own-deal s xs e (B .first) log shown
+    D = own-deal s xs e (B .first .number) (B .first .script) log shown
 
     D′ : Formed (settingOf (headerOf s)) (supplyOf (headerOf s) log shown) (dealIn (headerOf s′) s′)
     D′ =
         subst (λ (z : Header). Formed (settingOf z) (supplyOf z log shown) (dealIn (headerOf s′) s′)) (sym (B .header))
-        (own-deal s′ xs e second log shown)
+        (own-deal s′ xs e (B .second .number) second log shown)
 
-    shown-same : runLines (settingOf (headerOf s)) (supplyOf (headerOf s) log shown) (inputIn (headerOf s) s) (B .place) (B .lines) (start (dealIn (headerOf s) s)) .state .shown
-        ≡ runLines (settingOf (headerOf s)) (supplyOf (headerOf s) log shown) (inputIn (headerOf s′) s′) (B .place) (B .lines) (start (dealIn (headerOf s′) s′)) .state .shown
+    shown-same : runLines (settingOf (headerOf s)) (supplyOf (headerOf s) log shown) (inputIn (headerOf s) s) (B .first .end) (B .first .lines) (start (dealIn (headerOf s) s)) .state .shown
+        ≡ runLines (settingOf (headerOf s)) (supplyOf (headerOf s) log shown) (inputIn (headerOf s′) s′) (B .first .end) (B .first .lines) (start (dealIn (headerOf s′) s′)) .state .shown
     shown-same =
-        ap (λ (x : Stop). x .state .shown) (sym (own-stop s xs e (B .first) log shown)) ∙ q ∙ ap (λ (x : Stop). x .state .shown) (own-stop s′ xs e second log shown)
+        ap (λ (x : Stop). x .state .shown) (sym (own-stop s xs e (B .first .number) (B .first .script) log shown)) ∙ q ∙ ap (λ (x : Stop). x .state .shown) (own-stop s′ xs e (B .second .number) second log shown)
         ∙ ap (λ (z : Header). runLines (settingOf z) (supplyOf z log shown) (inputIn (headerOf s′) s′) e xs (start (dealIn (headerOf s′) s′)) .state .shown) (sym (B .header))
 
-    rows : Veiled (settingOf (headerOf s)) (supplyOf (headerOf s) log shown) (B .place) (B .lines) set (inputIn (headerOf s) s) (inputIn (headerOf s′) s′)
+    rows : Veiled (settingOf (headerOf s)) (supplyOf (headerOf s) log shown) (B .first .end) (B .first .lines) set (inputIn (headerOf s) s) (inputIn (headerOf s′) s′)
     rows = over-rows theorem h script xs e log shown set (B .parties) input input′ F F′ (B .inputs) (dealIn h s) d′ D D′ shown-same
 
 -- demand 3

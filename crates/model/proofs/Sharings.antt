@@ -10,15 +10,15 @@ use native.Mathlib.Omega.{arith}
 use lib.Dec.{T, eqb, eqb→eq, eqb-refl}
 use lib.ListN.{length, getD, replicate, length-replicate, getD-replicate}
 use Rattle.algebra.specs.Ring.{add, sub, mul}
-use Rattle.algebra.specs.Lists.{Below, from}
+use Rattle.algebra.specs.Lists.{Below, from, sameList, Distinct}
 use Rattle.algebra.specs.Rows.{tab, row, on}
 use Rattle.algebra.proofs.Ring.{ring, mod-ring, reduced, add-lt, mul-lt, sub-lt}
 use Rattle.algebra.proofs.Lists.{below-nil, below-cons, in-from, length-from}
 use Rattle.algebra.proofs.Rows.{length-tab, getD-tab, length-row, row-at, row-ext, row-below}
 use Rattle.algebra.proofs.Tests.{and-left, and-right, and-both}
 use Rattle.model.specs.Fields.{Modulus, Parties}
-use Rattle.model.specs.Sharing.{eval, share, Sharing, interpolate, at, recover, secret, sameList, isSharing}
-use Rattle.model.specs.Shamir.{Distinct, Points, Group, Agree, OneKept, Closed}
+use Rattle.model.specs.Sharing.{eval, share, Sharing, interpolate, at, recover, secret, isSharing}
+use Rattle.model.specs.Shamir.{Points, Group, Agree, OneKept, Closed}
 use Rattle.model.proofs.Polynomials.{Apart, Nodes, eval-lt, interpolate-cong, length-interpolate, below-interpolate, positive, interpolate-eval, interpolate-only, same-values}
 
 -- a party's number

@@ -7,9 +7,9 @@ use Prim.Native.Nat.{ℕ, zero, suc, _+_, _-_, _*_, _/_, _%_, _^_, _≤_, _<_}
 use native.Mathlib.Omega.{arith}
 use lib.ListN.{length, take, drop, length-append, length-take}
 use lib.Seq.{drop-nil, drop-drop}
-use Rattle.algebra.specs.Lists.{All, none, one}
+use Rattle.algebra.specs.Lists.{All, none, one, first, others}
 use Rattle.algebra.proofs.Rows.{length-row}
-use Rattle.model.specs.Steps.{Setting, Row, Deal, Step, first, others, lessTriple, lessMask, after, odd, plus, minus, times, constant, value, product, chosen, comparisonFrom, comparison, nextMask, stepF, stepU0, stepU1, stepG, remainder, floor, sign, over, blocks}
+use Rattle.model.specs.Steps.{Setting, Row, Deal, Step, lessTriple, lessMask, after, odd, plus, minus, times, constant, value, product, chosen, comparisonFrom, comparison, nextMask, stepF, stepU0, stepU1, stepG, remainder, floor, sign, over, blocks}
 
 -- a row of seven cells
 abbrev pub Seven : Row → Type 0

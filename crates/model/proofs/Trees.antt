@@ -4,8 +4,9 @@ use mathlib.Core.Path.{_≡_}
 use mathlib.Core.List.{List, [], _∷_}
 use Prim.Native.Nat.{ℕ, suc, _<_}
 use Rattle.algebra.specs.Ring.{sub, mul}
+use Rattle.algebra.specs.Lists.{first, others}
 use Rattle.model.specs.Sharing.{secret}
-use Rattle.model.specs.Steps.{Setting, Row, Triple, Deal, first, others, plus, minus, value, beaver, noTriple, spelled}
+use Rattle.model.specs.Steps.{Setting, Row, Triple, Deal, plus, minus, value, beaver, noTriple, spelled}
 use Rattle.model.specs.Run.{Spent}
 use Rattle.model.specs.Secrecy.{Alike}
 use Rattle.model.proofs.Bits.{bitsOf}

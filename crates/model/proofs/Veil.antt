@@ -106,6 +106,6 @@ module _ (S : Setting) (K : ℕ) (F : Field (S .p) (S .l) K) (wide : K < S .l) (
       }
 
 pub veiling : Veiling
-veiling S K F wide P u end xs ok set G input input′ I I′ _ _ A d d′ W W′ shown =
+veiling S K F wide P u end xs ok set G input input′ I I′ A d d′ W W′ shown =
     let shows = run-shows S K F wide P u end xs ok set G in
     veiled S K F wide P u end xs ok set G I I′ A (sym (shows input I d W) ∙ shown ∙ shows input′ I′ d′ W′)

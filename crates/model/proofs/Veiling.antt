@@ -1,7 +1,7 @@
 -- Demand 3 over rows: the statement that the claim about sheets rests on.
 -- Assumes nothing.
 use mathlib.Core.Path.{_≡_}
-use mathlib.Core.List.{List, [], _∷_}
+use mathlib.Core.List.{List}
 use Prim.Native.Nat.{ℕ, _<_}
 use lib.ListN.{length}
 use Rattle.algebra.specs.Lists.{All}
@@ -50,7 +50,7 @@ Veiling =
     → (u : Supply) (end : ℕ) (xs : List Line) → All (InRange (S .p) K) xs
     → (set : List ℕ) → Group (S .n) (S .t) set
     → (input input′ : List Row) → All (Sharing (S .p) (S .n) (S .t)) input → All (Sharing (S .p) (S .n) (S .t)) input′
-    → length input ≡ u .inputs → length input′ ≡ u .inputs → Alike set input input′
+    → Alike set input input′
     → (d d′ : Deal) → Formed S u d → Formed S u d′
     → runLines S u input end xs (start d) .state .shown ≡ runLines S u input′ end xs (start d′) .state .shown
     → Veiled S u end xs set input input′

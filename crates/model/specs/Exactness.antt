@@ -1,9 +1,9 @@
 -- Demand 2: exactness and counts, about the states that runs of whole scripts on accepted sheets pass through.
 -- Assumes nothing.
 use mathlib.Core.Path.{_≡_}
-use mathlib.Core.Bool.{Bool, true, false}
+use mathlib.Core.Bool.{true, false}
 use mathlib.Core.List.{List, [], _∷_, _++_, List·Memᴰ as In}
-use Prim.Native.Nat.{ℕ, _+_, _*_, _<_}
+use Prim.Native.Nat.{ℕ, _+_, _*_}
 use lib.ListN.{length, getD, drop, replicate}
 use Rattle.model.specs.Sharing.{Sharing, secret}
 use Rattle.model.specs.Steps.{Setting, Row, Deal}
@@ -14,9 +14,11 @@ use Rattle.model.specs.Run.{Supply, State, Stop, noRow, check, finish, s
 use Rattle.model.specs.Plain.{plainly}
 
 -- "A sheet is accepted when it is not refused because of the input." It has lines and END's offset then.
-pub record Accepted (sheet : List ℕ) (xs : List Line) (end : ℕ) : Type 0 where
+pub record Accepted (sheet : List ℕ) : Type 0 where
+  pub lines : List Line
+  pub end : ℕ
   pub number : sheetNumber sheet ≡ 0
-  pub script : sheetScript sheet ≡ accepted xs end
+  pub script : sheetScript sheet ≡ accepted lines end
 
 -- The states that the run of the lines xs passes through, at its start and after each finished command: with each the lines that are
 -- left, and the values that the plain interpreter gives the registers.
@@ -65,29 +67,20 @@ pub record Stopped (S : Setting) (u : Supply) (input : List Row) (d : Deal) (xs 
   pub passes : Passes S u input d xs left (x .state) values
   pub stops : Stops S u end x left
 
--- The claim, for a sheet and two buffer lengths.
-module _ (sheet : List ℕ) (log shown : ℕ) where
-  abbrev pub setting : Setting
-  setting = settingOf (headerOf sheet)
+-- The claim, for the run of the lines xs on the input and the deal d, which ends in the stop x.
+pub record Exactly (S : Setting) (u : Supply) (input : List Row) (d : Deal) (xs : List Line) (end : ℕ) (x : Stop) : Type 0 where
+  pub right : (ys : List Line) (s : State) (vs : List ℕ) → Passes S u input d xs ys s vs → Right S s vs
+  pub counted : (ys : List Line) (s : State) (vs : List ℕ) → Passes S u input d xs ys s vs → Counted S d xs ys s
+  -- a register that a command does not write keeps its row
+  pub keeps : (y : Line) (ys : List Line) (s : State) (vs : List ℕ) → Passes S u input d xs (y ∷ ys) s vs
+      → (r : ℕ) → (In r (cost (S .l) (y .command) .writes) → ⊥)
+      → getD (finish S input (y .command) s .registers) r noRow ≡ getD (s .registers) r noRow
+  -- the run's stop is one of these states
+  pub stops : Stopped S u input d xs end x
 
-  abbrev pub supply : Supply
-  supply = supplyOf (headerOf sheet) log shown
-
-  abbrev pub input : List Row
-  input = inputIn (headerOf sheet) sheet
-
-  abbrev pub deal : Deal
-  deal = dealIn (headerOf sheet) sheet
-
-  pub record Exactly (xs : List Line) (end : ℕ) : Type 0 where
-    pub right : (ys : List Line) (s : State) (vs : List ℕ) → Passes setting supply input deal xs ys s vs → Right setting s vs
-    pub counted : (ys : List Line) (s : State) (vs : List ℕ) → Passes setting supply input deal xs ys s vs → Counted setting deal xs ys s
-    -- a register that a command does not write keeps its row
-    pub keeps : (x : Line) (ys : List Line) (s : State) (vs : List ℕ) → Passes setting supply input deal xs (x ∷ ys) s vs
-        → (r : ℕ) → (In r (cost (setting .l) (x .command) .writes) → ⊥)
-        → getD (finish setting input (x .command) s .registers) r noRow ≡ getD (s .registers) r noRow
-    -- the run's stop is one of these states
-    pub stops : Stopped setting supply input deal xs end (stopOf sheet log shown)
-
+-- for every accepted sheet and any lengths of the two buffers
 abbrev pub Exactness : Type 0
-Exactness = (sheet : List ℕ) (log shown : ℕ) (xs : List Line) (end : ℕ) → Accepted sheet xs end → Exactly sheet log shown xs end
+Exactness =
+    (sheet : List ℕ) (log shown : ℕ) (a : Accepted sheet)
+    → let h = headerOf sheet in
+    Exactly (settingOf h) (supplyOf h log shown) (inputIn h sheet) (dealIn h sheet) (a .lines) (a .end) (stopOf sheet log shown)

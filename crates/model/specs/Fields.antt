@@ -2,30 +2,21 @@
 -- Assumes nothing.
 use mathlib.Core.Path.{_≡_}
 use mathlib.Core.Bool.{Bool, _&&_}
-use mathlib.Core.List.{List, [], _∷_}
+use mathlib.Core.List.{[], _∷_}
 use Prim.Native.Nat.{ℕ, zero, suc, _+_, _*_, _/_, _%_, _^_, _≤_, _<_}
 use lib.Dec.{leb}
 use lib.ListN.{getD}
 use Rattle.algebra.specs.Ring.{mul}
 
 -- "Four fields are held in one constant table": number, p, bits ℓ, largest k.
-abbrev pub moduli : List ℕ
-moduli = 13 ∷ 251 ∷ 65521 ∷ 2147483647 ∷ []
-
-abbrev pub bitLengths : List ℕ
-bitLengths = 4 ∷ 8 ∷ 16 ∷ 31 ∷ []
-
-abbrev pub largestKs : List ℕ
-largestKs = 3 ∷ 7 ∷ 15 ∷ 30 ∷ []
-
 unfoldable pub modulus : ℕ → ℕ
-modulus f = getD moduli f 0
+modulus f = getD (13 ∷ 251 ∷ 65521 ∷ 2147483647 ∷ []) f 0
 
 unfoldable pub bits : ℕ → ℕ
-bits f = getD bitLengths f 0
+bits f = getD (4 ∷ 8 ∷ 16 ∷ 31 ∷ []) f 0
 
 unfoldable pub largestK : ℕ → ℕ
-largestK f = getD largestKs f 0
+largestK f = getD (3 ∷ 7 ∷ 15 ∷ 30 ∷ []) f 0
 
 -- 1/d modulo p for d from 1 to 7, and 0 for 0: (1 + k p) / d with the k below d that leaves no remainder. (p^12 is 1 modulo d.)
 unfoldable pub inverse : ℕ → ℕ → ℕ

@@ -9,11 +9,7 @@ pub mod Script
 pub mod Costs
 pub mod Sheet
 pub mod Run
-pub mod Printed
 pub mod Plain
 pub mod Making
 pub mod Exactness
 pub mod Secrecy
-pub mod Figures
-pub mod Witness
-pub mod TwinSheets

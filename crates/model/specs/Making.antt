@@ -1,8 +1,8 @@
 -- Reading undoes making, and making undoes reading: a sheet's bytes and its parts say the same.
 -- Assumes nothing.
 use mathlib.Core.Path.{_≡_}
-use mathlib.Core.List.{List, List·Memᴰ as In}
-use Prim.Native.Nat.{ℕ, _*_, _^_, _≤_, _<_}
+use mathlib.Core.List.{List, _++_, List·Memᴰ as In}
+use Prim.Native.Nat.{ℕ, _^_, _<_}
 use lib.ListN.{length, getD}
 use Rattle.algebra.specs.Lists.{Below}
 use Rattle.algebra.specs.Rows.{row}
@@ -29,18 +29,18 @@ pub record Parts (h : Header) (script : List ℕ) (input : List Row) (d : Deal) 
   pub masks-length : length (d .masks) ≡ h .masks
   pub triples-length : length (d .triples) ≡ h .triples
   pub mask-lengths : (m : List Row) → In m (d .masks) → length m ≡ bits (h .field)
-  pub input-rows : (x : Row) → In x input → SheetRow (h .n) x
-  pub deal-rows : (x : Row) → In x (dealRows d) → SheetRow (h .n) x
+  pub rows : (x : Row) → In x (input ++ dealRows d) → SheetRow (h .n) x
+
+-- what the bytes s say, read: these parts, and no bytes more
+pub record Says (s : List ℕ) (h : Header) (script : List ℕ) (input : List Row) (d : Deal) : Type 0 where
+  pub length-is : length s ≡ impliedLength h
+  pub header-is : headerOf s ≡ h
+  pub script-is : scriptIn h s ≡ script
+  pub input-is : inputIn h s ≡ input
+  pub deal-is : dealIn h s ≡ d
 
 pub record Making : Type 0 where
-  -- reading undoes making
-  pub length-is : (h : Header) (script : List ℕ) (input : List Row) (d : Deal) → Parts h script input d → length (sheetOf h script input d) ≡ impliedLength h
-  pub header-is : (h : Header) (script : List ℕ) (input : List Row) (d : Deal) → Parts h script input d → headerOf (sheetOf h script input d) ≡ h
-  pub script-is : (h : Header) (script : List ℕ) (input : List Row) (d : Deal) → Parts h script input d → scriptIn h (sheetOf h script input d) ≡ script
-  pub input-is : (h : Header) (script : List ℕ) (input : List Row) (d : Deal) → Parts h script input d → inputIn h (sheetOf h script input d) ≡ input
-  pub deal-is : (h : Header) (script : List ℕ) (input : List Row) (d : Deal) → Parts h script input d → dealIn h (sheetOf h script input d) ≡ d
-  -- making undoes reading, for bytes as long as their header implies
-  pub parts-fit : (s : List ℕ) → Below 256 s → length s ≡ impliedLength (headerOf s) → headerOf s .n < 8
-      → Parts (headerOf s) (scriptIn (headerOf s) s) (inputIn (headerOf s) s) (dealIn (headerOf s) s)
-  pub sheet-is : (s : List ℕ) → Below 256 s → length s ≡ impliedLength (headerOf s) → headerOf s .n < 8
-      → sheetOf (headerOf s) (scriptIn (headerOf s) s) (inputIn (headerOf s) s) (dealIn (headerOf s) s) ≡ s
+  pub reading-undoes : (h : Header) (script : List ℕ) (input : List Row) (d : Deal) → Parts h script input d
+      → Says (sheetOf h script input d) h script input d
+  pub making-undoes : (s : List ℕ) → Below 256 s → (h : Header) (script : List ℕ) (input : List Row) (d : Deal) → Says s h script input d
+      → h .n < 8 → Parts h script input d × (sheetOf h script input d ≡ s)

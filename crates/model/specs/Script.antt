@@ -1,8 +1,8 @@
 -- The paper, the table of commands: what the bytes of a script say, and the refusals 9 to 11 of a whole script with their places.
 -- Assumes nothing.
-use mathlib.Core.Bool.{Bool, true, false, _&&_, cond}
+use mathlib.Core.Bool.{Bool, true, _&&_, cond}
 use mathlib.Core.List.{List, [], _∷_}
-use Prim.Native.Nat.{ℕ, zero, suc, _+_, _-_, _^_}
+use Prim.Native.Nat.{ℕ, zero, suc, _+_, _^_}
 use lib.Dec.{ltb, leb, eqb}
 use lib.ListN.{length, getD}
 use Rattle.model.specs.Bytes.{number}
@@ -11,13 +11,10 @@ pub data Command : Type 0 where
   END : Command
   LOAD : ℕ → Command
   CONST : ℕ → ℕ → Command
-  ADD SUB : ℕ → ℕ → ℕ → Command
-  SCALE : ℕ → ℕ → ℕ → Command
-  MUL : ℕ → ℕ → ℕ → Command
+  ADD SUB SCALE MUL : ℕ → ℕ → ℕ → Command
   MOD TRUNC : ℕ → ℕ → ℕ → ℕ → Command
   LTZ : ℕ → ℕ → ℕ → Command
-  OVER : ℕ → ℕ → ℕ → ℕ → Command
-  BLOCKS : ℕ → ℕ → ℕ → ℕ → Command
+  OVER BLOCKS : ℕ → ℕ → ℕ → ℕ → Command
   REVEAL : ℕ → Command
   BITLT : ℕ → ℕ → ℕ → ℕ → Command
 

@@ -1,7 +1,6 @@
 -- Demand 3: no set of t parties can tell two inputs apart. One claim about the runs of whole scripts on sheets.
 -- Assumes nothing.
 use mathlib.Core.Path.{_≡_}
-use mathlib.Core.Bool.{Bool}
 use mathlib.Core.List.{List, [], _∷_}
 use Prim.Native.Nat.{ℕ}
 use lib.Dec.{T}
@@ -10,8 +9,7 @@ use Rattle.algebra.specs.Lists.{All}
 use Rattle.model.specs.Fields.{bits}
 use Rattle.model.specs.Sharing.{Sharing}
 use Rattle.model.specs.Shamir.{Group, Agree}
-use Rattle.model.specs.Steps.{Setting, Row, Triple, Deal}
-use Rattle.model.specs.Script.{Line}
+use Rattle.model.specs.Steps.{Row, Deal}
 use Rattle.model.specs.Sheet.{Header, headerOf, settingOf, scriptIn, inputIn, dealRows, goodMask, goodTriple, sheetOf}
 use Rattle.model.specs.Run.{Outcome, stopOf, run}
 use Rattle.model.specs.Exactness.{Accepted}
@@ -64,12 +62,8 @@ pub record Veil (set s s′ : List ℕ) (log shown : ℕ) : Type 0 where
 
 -- "For any set of t parties, take any two accepted sheets with the same header, script … whose input shares agree in that set's columns"
 pub record Twins (set s s′ : List ℕ) : Type 0 where
-  pub lines : List Line
-  pub lines′ : List Line
-  pub place : ℕ
-  pub place′ : ℕ
-  pub first : Accepted s lines place
-  pub second : Accepted s′ lines′ place′
+  pub first : Accepted s
+  pub second : Accepted s′
   pub header : headerOf s ≡ headerOf s′
   pub script : scriptIn (headerOf s) s ≡ scriptIn (headerOf s′) s′
   pub parties : Group (headerOf s .n) (headerOf s .t) set

@@ -1,22 +1,17 @@
 -- What Shamir's sharing promises: for every field p of the table and all parties n and thresholds t that the paper permits.
 -- Assumes nothing.
 use mathlib.Core.Path.{_≡_}
-use mathlib.Core.Logic.{_↔_, _≢_}
-use mathlib.Core.List.{List, [], _∷_, List·Memᴰ as In}
+use mathlib.Core.Logic.{_↔_}
+use mathlib.Core.List.{List, List·Memᴰ as In}
 use Prim.Native.Nat.{ℕ, suc, _%_, _≤_, _<_}
 use lib.Dec.{T}
-use lib.ListN.{length, drop}
+use lib.ListN.{length}
 use Rattle.algebra.specs.Ring.{add, sub, mul}
-use Rattle.algebra.specs.Lists.{Below, from}
+use Rattle.algebra.specs.Lists.{Below, from, Distinct}
 use Rattle.algebra.specs.Rows.{row, on, padded}
-use Rattle.model.specs.Fields.{modulus, Parties}
+use Rattle.model.specs.Fields.{modulus}
 use Rattle.model.specs.Sharing.{Sharing, share, recover, secret, isSharing, at, weighted}
 use Rattle.model.specs.Entries.{shareNumber, shareLeft, recoverNumber, recoverValue, recoverLeft}
-
--- no number stands twice in the list
-abbrev pub Distinct : List ℕ → Type 0
-Distinct [] = Unit {0}
-Distinct (x ∷ xs) = ((z : ℕ) → In z xs → z ≢ x) × Distinct xs
 
 -- c distinct points of 0 to n
 pub record Points (n c : ℕ) (xs : List ℕ) : Type 0 where

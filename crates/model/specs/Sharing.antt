@@ -1,13 +1,13 @@
 -- The paper, "Fields and parties": polynomials over the field, rows of shares, and what is recovered from a row.
 -- Assumes nothing.
 use mathlib.Core.Path.{_≡_}
-use mathlib.Core.Bool.{Bool, true, false, _&&_, cond}
+use mathlib.Core.Bool.{Bool, cond}
 use mathlib.Core.List.{List, [], _∷_}
 use Prim.Native.Nat.{ℕ, zero, suc, _-_, _*_, _%_}
 use lib.Dec.{eqb}
 use lib.ListN.{length, getD}
 use Rattle.algebra.specs.Ring.{add, sub, mul}
-use Rattle.algebra.specs.Lists.{Below, from, total}
+use Rattle.algebra.specs.Lists.{Below, from, total, sameList}
 use Rattle.algebra.specs.Rows.{row}
 use Rattle.model.specs.Fields.{inverse}
 
@@ -58,13 +58,6 @@ recover p t x = interpolate p (from 1 (suc t)) (at 0 x)
 -- "its secret is the value at 0"
 unfoldable pub secret : ℕ → ℕ → List ℕ → ℕ
 secret p t x = eval p (recover p t x) 0
-
--- two lists are the same
-unfoldable pub sameList : List ℕ → List ℕ → Bool
-sameList [] [] = true
-sameList [] (y ∷ ys) = false
-sameList (x ∷ xs) [] = false
-sameList (x ∷ xs) (y ∷ ys) = eqb x y && sameList xs ys
 
 -- `Sharing` as a test: what is recovered is shared to the row again
 unfoldable pub isSharing : ℕ → ℕ → ℕ → List ℕ → Bool

@@ -2,10 +2,11 @@
 -- Assumes nothing.
 use mathlib.Core.Bool.{Bool, true, false, cond}
 use mathlib.Core.List.{List, [], _∷_, _++_}
-use Prim.Native.Nat.{ℕ, zero, suc, _+_, _-_, _*_, _/_, _%_, _^_}
+use Prim.Native.Nat.{ℕ, _+_, _-_, _/_, _%_, _^_}
 use lib.Dec.{eqb}
 use lib.ListN.{take}
 use Rattle.algebra.specs.Ring.{add, sub, mul}
+use Rattle.algebra.specs.Lists.{first, others}
 use Rattle.algebra.specs.Rows.{row, on}
 use Rattle.model.specs.Fields.{inversePowerOf2}
 use Rattle.model.specs.Sharing.{secret}
@@ -35,15 +36,6 @@ pub record Step : Type 0 where
   pub left : Row
   pub opened : List Row
   pub deal : Deal
-
--- the first of a list, or another where it has none; and the others
-abbrev pub first : {A : Type 0} → A → List A → A
-first d [] = d
-first d (x ∷ xs) = x
-
-abbrev pub others : {A : Type 0} → List A → List A
-others [] = []
-others (x ∷ xs) = xs
 
 -- "takes the next triple", "takes the next mask": what is left of the deal
 abbrev pub lessTriple : Deal → Deal

@@ -8,12 +8,12 @@ use native.Mathlib.Omega.{arith}
 use borrow.Rule.Slice.PartMut.{putMid, midOf}
 use lib.ListN.{length, take, drop, length-append}
 use lib.Seq.{drop-drop, length-take-le}
-use Rattle.algebra.specs.Lists.{over}
+use Rattle.algebra.specs.Lists.{over, others}
 use Rattle.algebra.proofs.Lists.{over-then, length-over}
 use Rattle.model.specs.Bytes.{sevens}
 use Rattle.model.specs.Run.{noRow, written}
 use Rattle.model.specs.Sheet.{triplesFrom}
-use Rattle.model.specs.Steps.{Setting, Row, Deal, Step, others, after, odd, constant, product, chosen, comparisonFrom, comparison}
+use Rattle.model.specs.Steps.{Setting, Row, Deal, Step, after, odd, constant, product, chosen, comparisonFrom, comparison}
 use Rattle.model.proofs.Taking.{seven-minus}
 use Rattle.model.proofs.Written.{written-append}
 use Rattle.steps.specs.Settings.{setting}

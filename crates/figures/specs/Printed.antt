@@ -1,14 +1,14 @@
 -- The paper, "Figures to check": the sheet of the printed run of program `table`, and what its run leaves in buffers of twelve and two numbers.
 -- Assumes nothing.
 use mathlib.Core.Path.{_≡_}
-use mathlib.Core.Bool.{Bool, true, false}
-use mathlib.Core.List.{List, [], _∷_, _++_}
+use mathlib.Core.Bool.{true, false}
+use mathlib.Core.List.{List, [], _∷_}
 use Prim.Native.Nat.{ℕ}
 use lib.ListN.{replicate}
 use Rattle.algebra.specs.Rows.{padded}
-use Rattle.model.specs.Steps.{Row, Triple, Deal}
-use Rattle.model.specs.Sheet.{Header, sheetOf}
+use Rattle.model.specs.Steps.{Row}
+use Rattle.model.specs.Sheet.{sheetOf}
 use Rattle.model.specs.Run.{Outcome, noRow, run}
 
 -- "Given field 0, n 3, t 1; script 01 00 01 01 06 02 00 01 0C 02 00; inputs 7 9 11 and 7 11 2; triple 2 3 4, 5 8 11, 7 12 4; no mask"
 abbrev pub three : ℕ → ℕ → ℕ → Row

@@ -2,18 +2,18 @@
 -- a row of each larger field, weights, and a row that is no sharing.
 -- Assumes nothing.
 use mathlib.Core.Path.{_≡_, refl}
-use mathlib.Core.Bool.{Bool, false}
-use mathlib.Core.List.{List, [], _∷_, List·Memᴰ·eq-of-singleton, List·Memᴰ·not-nil}
-use Prim.Native.Nat.{ℕ, suc, _≤_}
+use mathlib.Core.Bool.{false}
+use mathlib.Core.List.{[], _∷_, List·Memᴰ·eq-of-singleton, List·Memᴰ·not-nil}
+use Prim.Native.Nat.{suc}
 use native.Mathlib.Omega.{arith}
 use Rattle.algebra.specs.Ring.{add, sub, mul}
-use Rattle.algebra.specs.Lists.{from, total}
+use Rattle.algebra.specs.Lists.{from, total, sameList}
 use Rattle.algebra.specs.Rows.{tab, row, padded}
 use Rattle.model.specs.Fields.{modulus, inverse, Parties}
-use Rattle.model.specs.Sharing.{eval, newton, reciprocal, slope, interpolate, share, Sharing, recover, secret, sameList, isSharing, ratio, weight, weighted}
+use Rattle.model.specs.Sharing.{eval, newton, reciprocal, slope, interpolate, share, Sharing, recover, secret, isSharing, ratio, weight, weighted}
 use Rattle.model.specs.Shamir.{Group}
 use Rattle.model.proofs.Fields.{fields}
 use Rattle.model.proofs.Sharings.{test-exact}
 
 pub figures : (recover 13 1 (padded (7 ∷ 9 ∷ 11 ∷ [])) ≡ 5 ∷ 2 ∷ [])
     × (recover 13 1 (padded (7 ∷ 11 ∷ 2 ∷ [])) ≡ 3 ∷ 4 ∷ [])

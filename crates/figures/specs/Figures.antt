@@ -3,13 +3,13 @@
 use mathlib.Core.Path.{_≡_}
 use mathlib.Core.List.{List, [], _∷_, map}
 use Prim.Native.Nat.{ℕ}
-use lib.IntN.{ℤ, pos, negsuc}
+use lib.IntN.{ℤ, negsuc}
 use lib.ListN.{length, replicate}
 use Rattle.model.specs.Coding.{code}
 use Rattle.model.specs.Sharing.{share}
-use Rattle.model.specs.Steps.{Setting, Row, Triple, Deal, Step, value, stepC, stepF, stepU, comparison, remainder, floor, sign, over, blocks}
+use Rattle.model.specs.Steps.{Setting, Row, Deal, Step, value, stepC, stepF, stepU, comparison, remainder, floor, sign, over, blocks}
 use Rattle.model.specs.Script.{LTZ}
 use Rattle.model.specs.Costs.{cost}
 
 -- fields 0 and 2, three parties, threshold 1
 abbrev pub small : Setting

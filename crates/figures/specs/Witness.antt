@@ -4,12 +4,11 @@ use mathlib.Core.Path.{_≡_}
 use mathlib.Core.List.{List, [], _∷_, map}
 use Prim.Native.Nat.{ℕ}
 use lib.ListN.{take, replicate}
-use Rattle.model.specs.Steps.{Deal}
-use Rattle.model.specs.Script.{Command, END, LOAD, CONST, ADD, SUB, SCALE, MUL, MOD, TRUNC, LTZ, OVER, BLOCKS, REVEAL, BITLT, Line}
-use Rattle.model.specs.Sheet.{Header, secrets, sheetOf}
+use Rattle.model.specs.Script.{Command, LOAD, CONST, ADD, SUB, SCALE, MUL, MOD, TRUNC, LTZ, OVER, BLOCKS, REVEAL, BITLT, Line}
+use Rattle.model.specs.Sheet.{secrets, sheetOf}
 use Rattle.model.specs.Run.{Stop, stopOf}
 use Rattle.model.specs.Exactness.{Accepted}
-use Rattle.model.specs.Figures.{small, of, five}
+use Rattle.figures.specs.Figures.{small, of, five}
 
 -- field 0; register 0 is −1, and the others are worked from it with k = 3
 abbrev pub script : List ℕ
@@ -40,6 +39,8 @@ seen x =
 -- It is accepted, and with buffers that are just large enough it stops with 0 at END: 1 input, 5 masks, 26 triples and 58 openings are
 -- spent, the value 0 is revealed, and the registers have the secrets that the plain interpreter gives.
 pub record Witness : Type 0 where
-  pub is-accepted : Accepted sheet lines 64
+  pub is-accepted : Accepted sheet
+  pub has-lines : is-accepted .lines ≡ lines
+  pub has-end : is-accepted .end ≡ 64
   pub stops : seen (stopOf sheet 174 1)
       ≡ (0 ∷ 64 ∷ 1 ∷ 5 ∷ 26 ∷ 58 ∷ []) ∷ (0 ∷ []) ∷ (12 ∷ 2 ∷ 1 ∷ 10 ∷ 10 ∷ 11 ∷ 1 ∷ 12 ∷ 1 ∷ 0 ∷ 12 ∷ 0 ∷ []) ∷ []

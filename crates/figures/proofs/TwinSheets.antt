@@ -1,26 +1,26 @@
 -- The two sheets compute; and two sheets that reveal their inputs have no map of deals.
 -- Assumes nothing.
 use mathlib.Core.Path.{_≡_, refl, sym, ap, _∙_}
-use mathlib.Core.List.{List, [], _∷_, List·Memᴰ as In, List·Memᴰ·eq-of-singleton}
+use mathlib.Core.List.{List, [], _∷_, List·Memᴰ·eq-of-singleton}
 use Prim.Native.Nat.{ℕ}
 use native.Mathlib.Omega.{arith}
 use lib.ListN.{length, getD}
 use Rattle.algebra.specs.Ring.{add, sub, mul}
-use Rattle.algebra.specs.Lists.{allBelow, from, over, All, none}
+use Rattle.algebra.specs.Lists.{allBelow, from, over, none, sameList}
 use Rattle.algebra.specs.Rows.{tab, row}
 use Rattle.model.specs.Fields.{modulus, bits, largestK, inverse, inversePowerOf2, parties}
-use Rattle.model.specs.Sharing.{eval, share, newton, reciprocal, slope, interpolate, recover, secret, sameList, isSharing, at}
-use Rattle.model.specs.Shamir.{Group, Agree}
+use Rattle.model.specs.Sharing.{eval, share, newton, reciprocal, slope, interpolate, recover, secret, isSharing}
+use Rattle.model.specs.Shamir.{Agree}
 use Rattle.model.specs.Bytes.{number, rowAt}
-use Rattle.model.specs.Steps.{Row, Triple, Deal, plus, minus, times, constant, value, beaver, product, comparisonFrom, comparison, spelled, unmasked, remainder, floor}
+use Rattle.model.specs.Steps.{Deal, plus, minus, times, constant, value, beaver, product, comparisonFrom, comparison, spelled, unmasked, remainder, floor}
 use Rattle.model.specs.Script.{LOAD, REVEAL, commandAt, sizeAt, inRanges, numberAt, scriptFrom, scriptOf}
 use Rattle.model.specs.Costs.{cost}
 use Rattle.model.specs.Sheet.{headerOf, limits, impliedLength, scriptIn, rowsAt, masksFrom, triplesFrom, inputIn, dealIn, all, maskRows, tripleRows, spell, secrets, goodMask, goodTriple, sheetNumber, bytesOf, shareBytes, rowBytes, headerBytes, sheetOf}
 use Rattle.model.specs.Run.{allSet, marked, check, pay, put, perform, finish, runLines, nothingSpent, start, written, outcome, runScript, stopOf, run}
-use Rattle.model.specs.Witness.{line}
-use Rattle.model.specs.Secrecy.{Alike, end, row as and-row, WellFormed, Twins, Veil, runOn}
-use Rattle.model.specs.TwinSheets.{sheet, one, three, lines, plain, NotEmpty, TooMuch}
-use Rattle.model.proofs.Examples.{a-group}
+use Rattle.figures.specs.Witness.{line}
+use Rattle.model.specs.Secrecy.{end, row as and-row, WellFormed, Twins, runOn}
+use Rattle.figures.specs.TwinSheets.{sheet, one, three, lines, plain, NotEmpty, TooMuch}
+use Rattle.figures.proofs.Examples.{a-group}
 
 -- party 2's shares are the same
 agree : Agree (2 ∷ []) one three
@@ -33,12 +33,8 @@ not-empty =
     record {
       twins =
           record {
-            lines = lines;
-            lines′ = lines;
-            place = 18;
-            place′ = 18;
-            first = record { number = refl; script = refl };
-            second = record { number = refl; script = refl };
+            first = record { lines = lines; end = 18; number = refl; script = refl };
+            second = record { lines = lines; end = 18; number = refl; script = refl };
             header = refl;
             script = refl;
             parties = a-group;
@@ -70,12 +66,8 @@ twins : Twins (2 ∷ []) (plain one) (plain three)
 unfolding add sub mul allBelow from tab row modulus bits largestK inverse parties eval share newton reciprocal slope interpolate recover secret sameList isSharing number rowAt commandAt sizeAt inRanges numberAt scriptFrom scriptOf headerOf limits impliedLength scriptIn rowsAt masksFrom triplesFrom inputIn dealIn all maskRows tripleRows sheetNumber bytesOf shareBytes rowBytes headerBytes sheetOf plain
 twins =
     record {
-      lines = line 0 (LOAD 0) ∷ line 2 (REVEAL 0) ∷ [];
-      lines′ = line 0 (LOAD 0) ∷ line 2 (REVEAL 0) ∷ [];
-      place = 4;
-      place′ = 4;
-      first = record { number = refl; script = refl };
-      second = record { number = refl; script = refl };
+      first = record { lines = line 0 (LOAD 0) ∷ line 2 (REVEAL 0) ∷ []; end = 4; number = refl; script = refl };
+      second = record { lines = line 0 (LOAD 0) ∷ line 2 (REVEAL 0) ∷ []; end = 4; number = refl; script = refl };
       header = refl;
       script = refl;
       parties = a-group;

@@ -1,0 +1,5 @@
+pub mod Examples
+pub mod Figures
+pub mod Printed
+pub mod Witness
+pub mod TwinSheets

@@ -1,0 +1,19 @@
+-- The witness computes.
+-- Assumes nothing.
+use mathlib.Core.Path.{refl}
+use Rattle.algebra.specs.Ring.{add, sub, mul}
+use Rattle.algebra.specs.Lists.{allBelow, from, sameList}
+use Rattle.algebra.specs.Rows.{tab, row}
+use Rattle.model.specs.Fields.{modulus, bits, largestK, inverse, inversePowerOf2, parties}
+use Rattle.model.specs.Sharing.{eval, share, newton, reciprocal, slope, interpolate, recover, secret, isSharing}
+use Rattle.model.specs.Bytes.{number, rowAt}
+use Rattle.model.specs.Steps.{plus, minus, times, constant, value, beaver, product, comparisonFrom, comparison, spelled, unmasked, remainder, floor, sign, over, blocks}
+use Rattle.model.specs.Script.{commandAt, sizeAt, inRanges, numberAt, scriptFrom, scriptOf}
+use Rattle.model.specs.Costs.{cost}
+use Rattle.model.specs.Sheet.{headerOf, limits, impliedLength, scriptIn, rowsAt, masksFrom, triplesFrom, inputIn, dealIn, all, maskRows, tripleRows, spell, secrets, goodMask, goodTriple, sheetNumber, bytesOf, shareBytes, rowBytes, headerBytes, sheetOf}
+use Rattle.model.specs.Run.{allSet, marked, check, pay, registersFrom, put, perform, finish, runLines, nothingSpent, start, runScript, stopOf}
+use Rattle.figures.specs.Witness.{sheet, lines, seen, Witness}
+
+pub witness : Witness
+unfolding add sub mul allBelow from tab row modulus bits largestK inverse inversePowerOf2 parties eval share newton reciprocal slope interpolate recover secret sameList isSharing number rowAt plus minus times constant value beaver product comparisonFrom comparison spelled unmasked remainder floor sign over blocks commandAt sizeAt inRanges numberAt scriptFrom scriptOf cost headerOf limits impliedLength scriptIn rowsAt masksFrom triplesFrom inputIn dealIn all maskRows tripleRows spell secrets goodMask goodTriple sheetNumber bytesOf shareBytes rowBytes headerBytes sheetOf allSet marked check pay registersFrom put perform finish runLines nothingSpent start runScript stopOf sheet lines seen
+witness = record { is-accepted = record { lines = lines; end = 64; number = refl; script = refl }; has-lines = refl; has-end = refl; stops = refl }

@@ -1,0 +1,4 @@
+pub mod Figures
+pub mod Printed
+pub mod Witness
+pub mod TwinSheets
