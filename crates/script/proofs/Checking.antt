@@ -8,7 +8,7 @@ use Prim.Native.Nat.{ℕ, suc, _+_, _-_, _≤_, _<_}
 use native.Mathlib.Numerals.{sub-one}
 use native.Mathlib.Omega.{arith}
 use lib.ListN.{length}
-use Rattle.model.specs.Script.{Script, accepted, refused, commandAt, sizeAt, numberAt, scriptFrom, scriptOf}
+use Rattle.model.specs.Script.{Script, accepted, refused, commandAt, sizeAt, scriptFrom, scriptOf}
 use Rattle.script.specs.declared.command.Command.{Command}
 use Rattle.script.specs.declared.command.Decoded.{Decoded}
 use Rattle.script.specs.declared.command.Decoded.the-variants.{Command as Found, Refused}

@@ -93,3 +93,7 @@ module _ (p K : ℕ) (s : List ℕ) (i : ℕ) where
       go : (k : ℕ) → numberAt p K s i ≡ k → refusal n ≡ reading k (commandAt s i) (i + sizeAt s i) → r ≡ n → (r ≡ numberAt p K s i) × (r ≢ 0)
       go zero z q h = let o : _≡_ {A = ℕ} 0 1 = cc in absurd (omega arith)
       go (suc k) z q h = let l : n ≡ suc k = cc in (h ∙ l ∙ sym z, λ o. omega arith)
+
+  pub number-at : (d : Decoded) → readingOf d ≡ readingAt p K s i → numberOf d ≡ numberAt p K s i
+  number-at (Found c next) e = sym (found-at {c = c} {next = next} e refl .number-is)
+  number-at (Refused n) e = refused-at {n = n} e refl refl .0

@@ -78,7 +78,14 @@ with-m : (K d a k m : ℕ) → T (register d && register a && kIn K k && mIn k m
 with-m K d a k m t =
     let R = with-k K d a k (and-left (register d && register a && kIn K k) _ t) in
     let q = and-right (register d && register a && kIn K k) (mIn k m) t in
-    record { d-in = R .d-in; a-in = R .a-in; k-least = R .k-least; k-most = R .k-most; m-least = leb→le 1 m (and-left (leb 1 m) _ q); m-most = lt m k (leb 1 m) q }
+    record {
+      d-in = R .d-in;
+      a-in = R .a-in;
+      k-least = R .k-least;
+      k-most = R .k-most;
+      m-least = leb→le 1 m (and-left (leb 1 m) _ q);
+      m-most = lt m k (leb 1 m) q;
+    }
 
 bits : (d b w v : ℕ) → T (register d && register b && leb 1 w && leb w 31 && leb (b + w) 64 && ltb v (2 ^ w)) → Bits d b w v
 bits d b w v t =

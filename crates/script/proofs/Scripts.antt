@@ -3,7 +3,7 @@
 use mathlib.Core.Path.{_≡_, refl, sym, ap, _∙_}
 use mathlib.Core.Logic.{_≢_}
 use mathlib.Core.Bool.{Bool, true, false, cond}
-use mathlib.Core.List.{List, [], _∷_}
+use mathlib.Core.List.{List, []}
 use Prim.Native.Nat.{ℕ, zero, suc, _+_, _-_, _≤_, _<_}
 use native.Mathlib.Numerals.{sub-one}
 use native.Mathlib.Omega.{arith}
@@ -11,7 +11,7 @@ use borrow.Author.Tests.{le-leb, eq-eqb, ne-eqb, eqb-true}
 use lib.Dec.{T, ltb, eqb, ltb→lt}
 use lib.ListN.{length, getD}
 use Rattle.algebra.proofs.Tests.{is-true, every, every-at}
-use Rattle.model.specs.Script.{Command, END, Line, Script, accepted, refused, commandAt, sizeAt, numberAt, withLine, scriptStep, scriptFrom, scriptOf}
+use Rattle.model.specs.Script.{Command, END, Line, Script, accepted, refused, commandAt, sizeAt, numberAt, withLine, scriptStep, scriptFrom}
 use Rattle.script.specs.Ends.{isEnd}
 use Rattle.script.specs.Meaning.{scriptNumber, scriptPlace}
 use Rattle.script.proofs.Sizes.{commands, size-some}
@@ -78,10 +78,12 @@ module _ (p K : ℕ) (s : List ℕ) where
     pub script-goes-on : isEnd (commandAt s i) ≡ false → scriptFrom fuel p K s i ≡ withLine (lineAt i) (scriptFrom (fuel - 1) p K s (i + sizeAt s i))
     script-goes-on f = rw (turn fuel i h, e, ← end-byte i e, f)
 
-    pub number-goes-on : isEnd (commandAt s i) ≡ false → scriptNumber (scriptFrom fuel p K s i) ≡ scriptNumber (scriptFrom (fuel - 1) p K s (i + sizeAt s i))
+    pub number-goes-on : isEnd (commandAt s i) ≡ false
+        → scriptNumber (scriptFrom fuel p K s i) ≡ scriptNumber (scriptFrom (fuel - 1) p K s (i + sizeAt s i))
     number-goes-on f = ap scriptNumber (script-goes-on f) ∙ number-line (lineAt i) (scriptFrom (fuel - 1) p K s (i + sizeAt s i))
 
-    pub place-goes-on : isEnd (commandAt s i) ≡ false → scriptPlace (scriptFrom fuel p K s i) ≡ scriptPlace (scriptFrom (fuel - 1) p K s (i + sizeAt s i))
+    pub place-goes-on : isEnd (commandAt s i) ≡ false
+        → scriptPlace (scriptFrom fuel p K s i) ≡ scriptPlace (scriptFrom (fuel - 1) p K s (i + sizeAt s i))
     place-goes-on f = ap scriptPlace (script-goes-on f) ∙ place-line (lineAt i) (scriptFrom (fuel - 1) p K s (i + sizeAt s i))
 
   -- a script that is accepted from a place on has a command there

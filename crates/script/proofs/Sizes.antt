@@ -7,9 +7,9 @@ use mathlib.Core.List.{List, [], _∷_}
 use Prim.Native.Nat.{ℕ, zero, suc, _+_, _-_, _≤_, _<_}
 use native.Mathlib.Omega.{arith}
 use borrow.Author.Tests.{le-ltb, ne-eqb}
-use lib.Dec.{T, ltb, leb, eqb, leb→le, eqb→eq}
+use lib.Dec.{T, ltb, leb, eqb, ltb→lt, leb→le, eqb→eq}
 use lib.ListN.{length, getD}
-use Rattle.algebra.proofs.Tests.{and-left, and-right, every, every-at}
+use Rattle.algebra.proofs.Tests.{and-left, and-right, every-at}
 use Rattle.model.specs.Bytes.{number}
 use Rattle.model.specs.Script.{Command, END, LOAD, CONST, ADD, SUB, SCALE, MUL, MOD, TRUNC, LTZ, OVER, BLOCKS, REVEAL, BITLT, sizes, sizeAt, commandAt}
 
@@ -45,18 +45,25 @@ size-some s i = positive sizes tt (getD s i 0)
 pub size-known : (k : ℕ) → k ≤ 13 → getD sizes k 0 ≡ getD sizes k 1
 size-known k h = eqb→eq _ _ (every-at 14 (λ j. eqb (getD sizes j 0) (getD sizes j 1)) tt k (omega arith))
 
--- the first j bytes of a command whose byte is k stand within the script
-pub room : (s : List ℕ) (i k j : ℕ) {op : ℕ} → T (leb j (getD sizes k 1)) → op ≡ getD s i 0 → op ≡ k → i + sizeAt s i ≤ length s → i + j ≤ length s
-unfolding sizeAt
-room s i k j t e f h = let g : getD s i 0 ≡ k = cc in omega (arith, leb→le j (getD sizes k 1) t, rw g at h)
+-- what is read of a command whose byte is k stands within the script: byte j, and the four bytes from j on
+module _ (k : ℕ) (s : List ℕ) (i j : ℕ) {op : ℕ} (e : op ≡ getD s i 0) (f : op ≡ k) (h : i + sizeAt s i ≤ length s) where
+  up-to : {n : ℕ} → n ≤ getD sizes k 1 → i + n ≤ length s
+  unfolding sizeAt
+  up-to l = let g : getD s i 0 ≡ k = cc in omega (arith, rw g at h)
 
--- and so do the first four, unless it is END, LOAD, CONST or REVEAL
+  pub room : T (ltb j (getD sizes k 1)) → i + j < length s
+  room t = omega (arith, up-to (ltb→lt j (getD sizes k 1) t))
+
+  pub room-value : T (leb (j + 4) (getD sizes k 1)) → i + j + 4 ≤ length s
+  room-value t = omega (arith, up-to (leb→le (j + 4) (getD sizes k 1) t))
+
+-- and so do the first four bytes, unless it is END, LOAD, CONST or REVEAL
 long : ℕ → Bool
 long k = cond (ltb k 3) true (cond (eqb k 12) true (leb 4 (getD sizes k 1)))
 
-pub room-long : (s : List ℕ) (i : ℕ) {op : ℕ} → op ≡ getD s i 0 → 3 ≤ op → op ≤ 13 → op ≢ 12 → i + sizeAt s i ≤ length s → i + 4 ≤ length s
+pub room-long : (s : List ℕ) (i j : ℕ) {op : ℕ} → op ≡ getD s i 0 → 3 ≤ op → op ≤ 13 → op ≢ 12 → i + sizeAt s i ≤ length s → j < 4 → i + j < length s
 unfolding sizeAt long
-room-long s i {op} e l m n h =
+room-long s i j {op} e l m n h k =
     let t : T (leb 4 (getD sizes op 1)) = rw (le-ltb op 3 l, ne-eqb op 12 n) at (every-at 14 long tt op (omega arith)) in
     omega (arith, leb→le 4 (getD sizes op 1) t, rw (← e) at h)
 

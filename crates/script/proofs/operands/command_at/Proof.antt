@@ -2,21 +2,21 @@
 -- Assumes nothing.
 use borrow.Author.Needs.{needs}
 use native.Mathlib.Omega.{arith}
-use Rattle.script.proofs.Sizes.{room, room-long, command-at-byte}
+use Rattle.script.proofs.Sizes.{room, room-value, command-at-byte}
 use Rattle.script.proofs.operands.command_at.Statement.{statement}
 use Rattle.script.proofs.operands.command_at.Tie as tie
 
 register-requires : tie.Need-register-requires
-register-requires c κs = omega (arith, room _ _ 1 2 tt (c .before .before .pre .0) (c .match .keys2) (c .before .before .pre .2))
+register-requires c κs = search (room 1)
 
 register-requires-2 : tie.Need-register-requires-2
-register-requires-2 c κs = omega (arith, room _ _ 2 6 tt (c .before .before .pre .0) (c .match .keys3) (c .before .before .pre .2))
+register-requires-2 c κs = search (room 2)
 
 value-requires : tie.Need-value-requires
-value-requires c κs = omega (arith, room _ _ 2 6 tt (c .before .before .before .pre .0) (c .before .match .keys3) (c .before .before .before .pre .2))
+value-requires c κs = search (room-value 2)
 
 register-requires-3 : tie.Need-register-requires-3
-register-requires-3 c κs = omega (arith, room _ _ 12 2 tt (c .before .before .pre .0) (c .match .keys4) (c .before .before .pre .2))
+register-requires-3 c κs = search (room 12)
 
 on-register-requires : tie.Need-on-register-requires
 on-register-requires c κs = search needs

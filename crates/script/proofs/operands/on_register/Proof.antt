@@ -2,33 +2,33 @@
 -- Assumes nothing.
 use borrow.Author.Needs.{needs}
 use native.Mathlib.Omega.{arith}
-use Rattle.script.proofs.Sizes.{room, room-long, command-at-byte}
+use Rattle.script.proofs.Sizes.{room, room-value, room-long, command-at-byte}
 use Rattle.script.proofs.operands.on_register.Statement.{statement}
 use Rattle.script.proofs.operands.on_register.Tie as tie
 
 register-requires : tie.Need-register-requires
-register-requires c κs = omega (arith, room-long _ _ (c .before .pre .0 .0) (c .before .pre .0 .1) (c .before .pre .0 .2) (c .before .pre .0 .3) (c .before .pre .1))
+register-requires c κs = search (needs, room-long)
 
 register-requires-2 : tie.Need-register-requires-2
-register-requires-2 c κs = omega (arith, room-long _ _ (c .before .before .pre .0 .0) (c .before .before .pre .0 .1) (c .before .before .pre .0 .2) (c .before .before .pre .0 .3) (c .before .before .pre .1))
+register-requires-2 c κs = search (needs, room-long)
 
 register-requires-3 : tie.Need-register-requires-3
-register-requires-3 c κs = omega (arith, room _ _ 3 4 tt (c .before .before .before .before .pre .0 .0) (c .match .keys1) (c .before .before .before .before .pre .1))
+register-requires-3 c κs = search (room 3)
 
 register-requires-4 : tie.Need-register-requires-4
-register-requires-4 c κs = omega (arith, room _ _ 4 4 tt (c .before .before .before .before .pre .0 .0) (c .match .keys2) (c .before .before .before .before .pre .1))
+register-requires-4 c κs = search (room 4)
 
 value-requires : tie.Need-value-requires
-value-requires c κs = omega (arith, room _ _ 5 7 tt (c .before .before .before .before .pre .0 .0) (c .match .keys3) (c .before .before .before .before .pre .1))
+value-requires c κs = search (room-value 5)
 
 register-requires-5 : tie.Need-register-requires-5
-register-requires-5 c κs = omega (arith, room _ _ 6 4 tt (c .before .before .before .before .pre .0 .0) (c .match .keys4) (c .before .before .before .before .pre .1))
+register-requires-5 c κs = search (room 6)
 
 register-requires-6 : tie.Need-register-requires-6
-register-requires-6 c κs = omega (arith, room _ _ 13 8 tt (c .before .before .before .before .pre .0 .0) (c .match .keys5) (c .before .before .before .before .pre .1))
+register-requires-6 c κs = search (room 13)
 
 value-requires-2 : tie.Need-value-requires-2
-value-requires-2 c κs = omega (arith, room _ _ 13 8 tt (c .before .before .before .before .before .pre .0 .0) (c .before .match .keys5) (c .before .before .before .before .before .pre .1))
+value-requires-2 c κs = search (room-value 13)
 
 with-k-requires : tie.Need-with-k-requires
 with-k-requires c κs = search needs

@@ -1,24 +1,24 @@
 -- `operands::with_k` meets its contract: by its byte the command is that of the table, and its bytes stand within the script.
 -- Assumes nothing.
 use native.Mathlib.Omega.{arith}
-use Rattle.script.proofs.Sizes.{room, room-long, command-at-byte}
+use Rattle.script.proofs.Sizes.{room, room-value, room-long, command-at-byte}
 use Rattle.script.proofs.operands.with_k.Statement.{statement}
 use Rattle.script.proofs.operands.with_k.Tie as tie
 
 count-requires : tie.Need-count-requires
-count-requires c κs = omega (arith, room-long _ _ (c .before .pre .0 .0) (omega arith) (omega arith) (omega arith) (c .before .pre .1 .1))
+count-requires c κs = room-long _ _ 3 (c .before .pre .0 .0) (omega arith) (omega arith) (omega arith) (c .before .pre .1 .1) (omega arith)
 
 count-requires-2 : tie.Need-count-requires-2
-count-requires-2 c κs = omega (arith, room _ _ 7 5 tt (c .before .before .before .pre .0 .0) (c .match .keys1) (c .before .before .before .pre .1 .1))
+count-requires-2 c κs = search (room 7)
 
 count-requires-3 : tie.Need-count-requires-3
-count-requires-3 c κs = omega (arith, room _ _ 8 5 tt (c .before .before .before .pre .0 .0) (c .match .keys2) (c .before .before .before .pre .1 .1))
+count-requires-3 c κs = search (room 8)
 
 value-requires : tie.Need-value-requires
-value-requires c κs = omega (arith, room _ _ 10 8 tt (c .before .before .before .pre .0 .0) (c .match .keys4) (c .before .before .before .pre .1 .1))
+value-requires c κs = search (room-value 10)
 
 count-requires-4 : tie.Need-count-requires-4
-count-requires-4 c κs = omega (arith, room _ _ 11 5 tt (c .before .before .before .pre .0 .0) (omega arith) (c .before .before .before .pre .1 .1))
+count-requires-4 c κs = let q = c .before .before .before .pre in room 11 _ _ 4 (q .0 .0) (omega arith) (q .1 .1) tt
 
 returns : tie.Need-returns
 returns c = cc (command-at-byte _ _ 7 (c .before .before .before .before .pre .0 .0) (c .before .match .keys1))

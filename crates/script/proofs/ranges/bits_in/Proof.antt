@@ -17,13 +17,23 @@ returns-3 : tie.Need-returns-3
 returns-3 c = rw (lt-ltb _ _ (c .before .before .if1 .left), lt-ltb _ _ (c .before .if2 .left), lt-leb _ _ (c .if3 .taken))
 
 returns-4 : tie.Need-returns-4
-returns-4 c = rw (lt-ltb _ _ (c .before .before .before .if1 .left), lt-ltb _ _ (c .before .before .if2 .left), le-leb _ _ (c .before .if3 .left), lt-leb _ _ (c .if4 .taken))
+returns-4 c =
+    let q = c .before .before in
+    rw (lt-ltb _ _ (q .before .if1 .left), lt-ltb _ _ (q .if2 .left), le-leb _ _ (c .before .if3 .left), lt-leb _ _ (c .if4 .taken))
 
 add-if5 : tie.Need-add-if5
 add-if5 c = search needs
 
 returns-5 : tie.Need-returns-5
-returns-5 c = rw (lt-ltb _ _ (c .before .before .before .before .if1 .left), lt-ltb _ _ (c .before .before .before .if2 .left), le-leb _ _ (c .before .before .if3 .left), le-leb _ _ (c .before .if4 .left), lt-leb _ _ (c .if5 .taken))
+returns-5 c =
+    let q = c .before .before in
+    rw (
+      lt-ltb _ _ (q .before .before .if1 .left),
+      lt-ltb _ _ (q .before .if2 .left),
+      le-leb _ _ (q .if3 .left),
+      le-leb _ _ (c .before .if4 .left),
+      lt-leb _ _ (c .if5 .taken),
+    )
 
 cast-power : tie.Need-cast-power
 cast-power c = search needs
@@ -32,7 +42,16 @@ shl-power : tie.Need-shl-power
 shl-power c = search needs
 
 returns-6 : tie.Need-returns-6
-returns-6 c = rw (lt-ltb _ _ (c .before .before .before .before .if1 .left), lt-ltb _ _ (c .before .before .before .if2 .left), le-leb _ _ (c .before .before .if3 .left), le-leb _ _ (c .before .if4 .left), le-leb _ _ (c .if5 .left), shift-one (c .before .before .before .before .before .args .w) 32 (omega arith))
+returns-6 c =
+    let q = c .before .before in
+    rw (
+      lt-ltb _ _ (q .before .before .if1 .left),
+      lt-ltb _ _ (q .before .if2 .left),
+      le-leb _ _ (q .if3 .left),
+      le-leb _ _ (c .before .if4 .left),
+      le-leb _ _ (c .if5 .left),
+      shift-one (q .before .before .before .args .w) 32 (omega arith),
+    )
 
 pub bits-in-spec : {M : Type 1} → statement M
 bits-in-spec =
