@@ -30,6 +30,9 @@ putTable t d x =
 abbrev pub countsOf : Costs.Cost → Counts
 countsOf c = record { inputs = c .inputs; masks = c .masks; triples = c .triples; openings = c .openings; revealed = c .revealed }
 
+abbrev pub counted : ℕ → ℕ → ℕ → ℕ → ℕ → Counts
+counted i m t o r = record { inputs = i; masks = m; triples = t; openings = o; revealed = r }
+
 -- the table with so much paid
 unfoldable pub paid : Table → Counts → Table
 paid t c =

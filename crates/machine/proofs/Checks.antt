@@ -1,0 +1,84 @@
+-- The checks 22 to 26, of a cost as the code has it, where the registers read are set; and what a cost that passes leaves.
+-- Assumes nothing.
+use mathlib.Core.Path.{_≡_, refl, sym, ap, _∙_}
+use mathlib.Core.Bool.{Bool, true, false}
+use mathlib.Core.List.{List}
+use Prim.Native.Nat.{ℕ, _+_, _*_, _≤_, _<_}
+use native.Mathlib.Omega.{arith}
+use borrow.Author.Tests.{le-leb, lt-leb}
+use lib.Dec.{leb}
+use Rattle.model.specs.Costs.{Cost}
+use Rattle.model.specs.Run.{allSet, check}
+use Rattle.sheet.specs.declared.frame.Frame.{Frame}
+use Rattle.machine.specs.declared.table.Counts.{Counts}
+use Rattle.machine.specs.declared.table.Table.{Table}
+use Rattle.machine.specs.Tables.{countsOf}
+use Rattle.machine.specs.Holding.{spentOf, supplyIn}
+
+pub unset : (f : Frame) (log shown : ℕ) (t : Table) (c : Cost) → false ≡ allSet (t .marks) (c .reads) → 21 ≡ check (supplyIn f log shown) c (spentOf t)
+unfolding check
+unset f log shown t c r = rw (sym r)
+
+passes : (a b x y : ℕ) → x ≡ y → a + x ≤ b → leb (a + y) b ≡ true
+passes a b x y q h = le-leb (a + y) b (omega arith)
+
+fails : (a b x y : ℕ) → x ≡ y → b < a + x → leb (a + y) b ≡ false
+fails a b x y q h = lt-leb (a + y) b (omega arith)
+
+module _ (f : Frame) (log shown : ℕ) (t : Table) {k : Counts} (c : Cost) (e : k ≡ countsOf c) (r : true ≡ allSet (t .marks) (c .reads)) where
+  pub no-input : f .inputs < t .spent .inputs + k .inputs → 22 ≡ check (supplyIn f log shown) c (spentOf t)
+  unfolding check
+  no-input h = rw (sym r, fails _ _ _ _ (ap (λ (v : Counts). v .inputs) e) h)
+
+  module _ (inputs : t .spent .inputs + k .inputs ≤ f .inputs) where
+    pub no-mask : f .masks < t .spent .masks + k .masks → 23 ≡ check (supplyIn f log shown) c (spentOf t)
+    unfolding check
+    no-mask h = rw (sym r, passes _ _ _ _ (ap (λ (v : Counts). v .inputs) e) inputs, fails _ _ _ _ (ap (λ (v : Counts). v .masks) e) h)
+
+    module _ (masks : t .spent .masks + k .masks ≤ f .masks) where
+      pub no-triples : f .triples < t .spent .triples + k .triples → 24 ≡ check (supplyIn f log shown) c (spentOf t)
+      unfolding check
+      no-triples h =
+          rw (
+            sym r,
+            passes _ _ _ _ (ap (λ (v : Counts). v .inputs) e) inputs,
+            passes _ _ _ _ (ap (λ (v : Counts). v .masks) e) masks,
+            fails _ _ _ _ (ap (λ (v : Counts). v .triples) e) h,
+          )
+
+      module _ (triples : t .spent .triples + k .triples ≤ f .triples) where
+        pub no-room : log < (t .spent .openings + k .openings) * f .n → 25 ≡ check (supplyIn f log shown) c (spentOf t)
+        unfolding check
+        no-room h =
+            rw (
+              sym r,
+              passes _ _ _ _ (ap (λ (v : Counts). v .inputs) e) inputs,
+              passes _ _ _ _ (ap (λ (v : Counts). v .masks) e) masks,
+              passes _ _ _ _ (ap (λ (v : Counts). v .triples) e) triples,
+              lt-leb ((t .spent .openings + c .openings) * f .n) log (rw (sym (ap (λ (v : Counts). v .openings) e)) h),
+            )
+
+        module _ (room : (t .spent .openings + k .openings) * f .n ≤ log) where
+          pub no-space : shown < t .spent .revealed + k .revealed → 26 ≡ check (supplyIn f log shown) c (spentOf t)
+          unfolding check
+          no-space h =
+              rw (
+                sym r,
+                passes _ _ _ _ (ap (λ (v : Counts). v .inputs) e) inputs,
+                passes _ _ _ _ (ap (λ (v : Counts). v .masks) e) masks,
+                passes _ _ _ _ (ap (λ (v : Counts). v .triples) e) triples,
+                le-leb ((t .spent .openings + c .openings) * f .n) log (rw (sym (ap (λ (v : Counts). v .openings) e)) room),
+                fails _ _ _ _ (ap (λ (v : Counts). v .revealed) e) h,
+              )
+
+          pub enough : t .spent .revealed + k .revealed ≤ shown → 0 ≡ check (supplyIn f log shown) c (spentOf t)
+          unfolding check
+          enough h =
+              rw (
+                sym r,
+                passes _ _ _ _ (ap (λ (v : Counts). v .inputs) e) inputs,
+                passes _ _ _ _ (ap (λ (v : Counts). v .masks) e) masks,
+                passes _ _ _ _ (ap (λ (v : Counts). v .triples) e) triples,
+                le-leb ((t .spent .openings + c .openings) * f .n) log (rw (sym (ap (λ (v : Counts). v .openings) e)) room),
+                passes _ _ _ _ (ap (λ (v : Counts). v .revealed) e) h,
+              )

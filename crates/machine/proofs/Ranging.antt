@@ -1,0 +1,17 @@
+-- The operands' ranges of a command that the code has matched.
+-- Assumes nothing.
+use mathlib.Core.Path.{_≡_, refl, subst}
+use mathlib.Core.Bool.{Bool, true, false, _&&_}
+use lib.Dec.{T}
+use Rattle.model.specs.Script.{inRanges}
+use Rattle.sheet.specs.declared.frame.Frame.{Frame}
+use Rattle.script.specs.declared.command.Command.{Command}
+use Rattle.script.specs.Meaning.{meant}
+use Rattle.script.proofs.InRange.{Ranges, ranges}
+
+pub ranged : (f : Frame) {c c′ : Command} → T (inRanges (f .p) (f .largest) (meant c)) → c ≡ c′ → Ranges (f .p) (f .largest) (meant c′)
+ranged f {c′ = c′} t e = ranges (f .p) (f .largest) (meant c′) (subst (λ (x : Command). T (inRanges (f .p) (f .largest) (meant x))) e t)
+
+pub and-true : (b : Bool) → b && true ≡ b
+and-true true = refl
+and-true false = refl
