@@ -11,7 +11,7 @@ use Rattle.algebra.specs.Lists.{over, none, one}
 use Rattle.algebra.proofs.Lists.{over-then, length-over}
 use Rattle.model.specs.Bytes.{sevens}
 use Rattle.model.specs.Steps.{Row, Step}
-use Rattle.model.specs.Costs.{Cost, cost}
+use Rattle.model.specs.Costs.{Cost, free, cost}
 use Rattle.model.specs.Script.{Command}
 use Rattle.model.specs.Run.{State, noRow, register, written, pay, put, marked, made, finish}
 use Rattle.model.proofs.Taking.{Took, took-nothing}
@@ -92,6 +92,30 @@ over-set vs xs v h =
     let e : length (vs ++ (v ∷ [])) ≡ suc (length vs) = length-append vs (v ∷ []) ∙ omega arith in
     rw (drop-cons xs (length vs) 0 h, e) (set-append-seam vs _ _ v ∙ sym (append-assoc vs (v ∷ []) _))
 
+same : (k : ℕ) → k + 0 ≡ k
+same k = omega arith
+
+-- END changes nothing
+pub holds-idle : {s : List ℕ} {f : Frame} {log₀ shown₀ : List ℕ} {t : Table} {log shown : List ℕ} {x : State} → Holds s f log₀ shown₀ t log shown x
+    → Holds s f log₀ shown₀ (paid t (countsOf (free [] []))) log shown
+    (record { spent = pay (free [] []) (x .spent); registers = x .registers; deal = x .deal; opened = x .opened; shown = x .shown })
+unfolding pay marked paid
+holds-idle {s} {f} {t = t} H =
+    record {
+      cells = H .cells;
+      marks = H .marks;
+      spent = ap (pay (free [] [])) (H .spent);
+      registers = H .registers;
+      masks = H .masks ∙ ap (λ (k : ℕ). drop k (dealOf s f .masks)) (sym (same (t .spent .masks)));
+      triples = H .triples ∙ ap (λ (k : ℕ). drop k (dealOf s f .triples)) (sym (same (t .spent .triples)));
+      opened = H .opened;
+      numbers = H .numbers ∙ omega arith;
+      room = omega (arith, H .room);
+      revealed = H .revealed;
+      values = H .values ∙ omega arith;
+      space = omega (arith, H .space);
+    }
+
 -- REVEAL: the state after it, and that the table holds it
 abbrev pub revealCost : ℕ → Cost
 revealCost a = record { reads = a ∷ []; writes = []; inputs = 0; masks = 0; triples = 0; openings = 1; revealed = 1 }
@@ -130,9 +154,6 @@ module _ {s : List ℕ} {f : Frame} {log₀ shown₀ : List ℕ} {t : Table} {lo
         values = length-append (x .shown) (v ∷ []) ∙ omega (arith, H .values);
         space = rw (sym (shown-length H)) (omega arith);
       }
-    where
-      same : (k : ℕ) → k + 0 ≡ k
-      same k = omega arith
 
 -- What a command that leaves the row z in a register needs of a state that the table holds: z is what its step leaves, the step took and
 -- opened what it costs, and the record has what it opened.

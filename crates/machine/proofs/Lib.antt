@@ -5,3 +5,4 @@ pub mod Readiness
 pub mod Ranging
 pub mod Marks
 pub mod Checks
+pub mod Stepping

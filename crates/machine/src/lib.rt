@@ -4,4 +4,5 @@ pub mod cost;
 pub mod linear;
 pub mod masking;
 pub mod opening;
+pub mod step;
 pub mod table;

@@ -1,0 +1,93 @@
+// One command: tried, performed and paid.
+ghost use mathlib.Core.Path.{_≡_};
+ghost use Prim.Native.Nat.{_+_, _^_, _≤_, _<_};
+ghost use lib.Dec.{T};
+ghost use lib.ListN.{length};
+ghost use Rattle.model.specs.Script as Script;
+ghost use Rattle.model.specs.Costs as Costs;
+ghost use Rattle.sheet.specs.Framed.{Framed};
+ghost use Rattle.script.specs.Meaning.{meant};
+ghost use Rattle.machine.specs.Tables.{paid};
+ghost use Rattle.machine.specs.Holding.{Ready, Afforded, Performs, Tries};
+use crate::cost;
+use crate::table::Counts;
+use crate::table::Table;
+use script::command::Command;
+use sheet::frame::Frame;
+
+// The number of the checks, and the table after the command, or as it was.
+pub struct Stepped {
+    pub number: u32,
+    pub table: Table,
+}
+
+impl Table {
+    // "Inputs counts the finished LOADs; masks, triples and openings are the sums of what is spent over the finished commands."
+    fn pay(self, k: Counts) -> Table
+        requires { ⌜ (self .spent .inputs + k .inputs < 2 ^ 64) × (self .spent .masks + k .masks < 2 ^ 64) × (self .spent .triples + k .triples < 2 ^ 64) × (self .spent .openings + k .openings < 2 ^ 64) × (self .spent .revealed + k .revealed < 2 ^ 64) ⌝ }
+        ensures { λ r. ⌜ r ≡ paid self k ⌝ }
+    {
+        let cells = self.cells;
+        let marks = self.marks;
+        let spent = Counts {
+            inputs: self.spent.inputs + k.inputs,
+            masks: self.spent.masks + k.masks,
+            triples: self.spent.triples + k.triples,
+            openings: self.spent.openings + k.openings,
+            revealed: self.spent.revealed + k.revealed,
+        };
+        Table {
+            cells,
+            marks,
+            spent,
+        }
+    }
+
+    // A command that the checks let through.
+    fn perform(self, f: Frame, s: &[u8], log: &mut [u32], revealed: &mut [u32], c: Command) -> Table
+        requires { ⌜ Ready (now s) f (length (now log)) (meant c) self × (self .spent .revealed + Costs.cost (f .l) (meant c) .revealed ≤ length (now revealed)) ⌝ }
+        ensures { λ r. ⌜ Performs (now (s .entry)) f (meant c) self (now (log .entry)) (now (revealed .entry)) r (now (log .exit)) (now (revealed .exit)) ⌝ }
+    {
+        match c {
+            Command::End => self,
+            Command::Load { d } => self.load(f, s, d),
+            Command::Const { d, v } => self.fill(f, d, v),
+            Command::Add { d, a, b } => self.add(f, d, a, b),
+            Command::Sub { d, a, b } => self.sub(f, d, a, b),
+            Command::Scale { d, a, v } => self.scale(f, d, a, v),
+            Command::Mul { d, a, b } => self.multiply(f, s, log, d, a, b),
+            Command::Mod { d, a, k, m } => self.remainder(f, s, log, d, a, k, m),
+            Command::Trunc { d, a, k, m } => self.floor(f, s, log, d, a, k, m),
+            Command::Ltz { d, a, k } => self.sign(f, s, log, d, a, k),
+            Command::Over { d, a, k, v } => self.over(f, s, log, d, a, k, v),
+            Command::Blocks { d, a, k, m } => self.blocks(f, s, log, d, a, k, m),
+            Command::Reveal { a } => self.reveal(f, s, log, revealed, a),
+            Command::Bitlt { d, b, w, v } => self.compare(f, s, log, d, b, w, v),
+        }
+    }
+
+    // "Tried before a command changes anything": either all of the command, or nothing and the number of the first check that refuses.
+    pub fn step(
+        self,
+        f: Frame,
+        s: &[u8],
+        log: &mut [u32],
+        revealed: &mut [u32],
+        c: Command,
+    ) -> Stepped
+        requires { ⌜ Framed (now s) f × T (Script.inRanges (f .p) (f .largest) (meant c)) × Afforded f (length (now log)) (length (now revealed)) self ⌝ }
+        ensures { λ r. ⌜ Tries (now (s .entry)) f (meant c) self (now (log .entry)) (now (revealed .entry)) (r .number) (r .table) (now (log .exit)) (now (revealed .exit)) ⌝ }
+    {
+        let k = cost::cost(f, c);
+        let number = self.check(f, c, k, log.len(), revealed.len());
+        if number != 0 {
+            return Stepped {
+                number,
+                table: self,
+            };
+        }
+        let done = self.perform(f, s, log, revealed, c);
+        let table = done.pay(k);
+        Stepped { number: 0, table }
+    }
+}
