@@ -6,3 +6,4 @@ pub mod Ranging
 pub mod Marks
 pub mod Checks
 pub mod Stepping
+pub mod Runs

@@ -4,5 +4,6 @@ pub mod cost;
 pub mod linear;
 pub mod masking;
 pub mod opening;
+pub mod run;
 pub mod step;
 pub mod table;

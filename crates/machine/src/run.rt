@@ -1,0 +1,57 @@
+// The run of a sheet.
+ghost use mathlib.Core.Path.{_≡_};
+ghost use lib.ListN.{length};
+ghost use Rattle.model.specs.Script as Script;
+ghost use Rattle.model.specs.Run as Run;
+ghost use Rattle.sheet.specs.Framed.{Framed};
+ghost use Rattle.script.specs.Meaning.{scriptNumber};
+ghost use Rattle.machine.specs.Holding.{dealOf};
+ghost use Rattle.machine.specs.Answers.{Stopped, stopFrom};
+use crate::table::Table;
+use script::command::Decoded;
+use script::decode;
+use sheet::frame::Frame;
+
+// The paper's number and place, and the table that the run leaves: the registers, which are set, and what was spent.
+pub struct Answer {
+    pub number: u32,
+    pub place: usize,
+    pub table: Table,
+}
+
+// The run of a script that 9 to 11 do not refuse, command by command: "a refused one ends the run".
+fn run_script(f: Frame, s: &[u8], script: &[u8], log: &mut [u32], revealed: &mut [u32]) -> Answer
+    requires { ⌜ Framed (now s) f × (scriptNumber (Script.scriptOf (f .p) (f .largest) (now script)) ≡ 0) ⌝ }
+    ensures { λ r. ⌜ Stopped (now (s .entry)) f (now (log .entry)) (now (revealed .entry)) (stopFrom (now (s .entry)) f (length (now (log .entry))) (length (now (revealed .entry))) (Script.scriptOf (f .p) (f .largest) (now (script .entry))) (Run.start (dealOf (now (s .entry)) f))) r (now (log .exit)) (now (revealed .exit)) ⌝ }
+{
+    let mut table = Table::new();
+    let mut at = 0;
+    loop {
+        let found = decode::decode(f.p, f.largest, script, at);
+        let Decoded::Command(c, next) = found else {
+            return Answer {
+                number: decode::refusal(found),
+                place: at,
+                table,
+            };
+        };
+        if decode::is_end(c) {
+            return Answer {
+                number: 0,
+                place: at,
+                table,
+            };
+        }
+        let done = table.step(f, s, log, revealed, c);
+        let left = done.table;
+        if done.number != 0 {
+            return Answer {
+                number: done.number,
+                place: at,
+                table: left,
+            };
+        }
+        table = left;
+        at = next;
+    }
+}
