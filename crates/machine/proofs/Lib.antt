@@ -7,3 +7,4 @@ pub mod Marks
 pub mod Checks
 pub mod Stepping
 pub mod Runs
+pub mod Whole

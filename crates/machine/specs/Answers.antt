@@ -9,6 +9,7 @@ use Rattle.model.specs.Run.{State, Stop, Outcome, runLines}
 use Rattle.sheet.specs.declared.frame.Frame.{Frame}
 use Rattle.sheet.specs.Framed.{settingIn}
 use Rattle.machine.specs.declared.run.Answer.{Answer}
+use Rattle.machine.specs.Tables.{emptyTable}
 use Rattle.machine.specs.Holding.{Holds, inputsOf, supplyIn}
 
 -- the stop of a script's run from a state on
@@ -21,6 +22,10 @@ pub record Stopped (s : List ℕ) (f : Frame) (log₀ shown₀ : List ℕ) (x : 
   pub number : a .number ≡ x .number
   pub place : a .place ≡ x .place
   pub holds : Holds s f log₀ shown₀ (a .table) log shown (x .state)
+
+-- "Nothing is run."
+abbrev pub refusedAnswer : ℕ → ℕ → Answer
+refusedAnswer number place = record { number = number; place = place; table = emptyTable }
 
 -- the answer with both lent buffers after the call
 abbrev pub outcomeOf : Answer → List ℕ → List ℕ → Outcome

@@ -4,13 +4,16 @@ ghost use lib.ListN.{length};
 ghost use Rattle.model.specs.Script as Script;
 ghost use Rattle.model.specs.Run as Run;
 ghost use Rattle.sheet.specs.Framed.{Framed};
+ghost use Rattle.sheet.specs.Reading.{numberOf};
 ghost use Rattle.script.specs.Meaning.{scriptNumber};
 ghost use Rattle.machine.specs.Holding.{dealOf};
-ghost use Rattle.machine.specs.Answers.{Stopped, stopFrom};
+ghost use Rattle.machine.specs.Answers.{Stopped, stopFrom, refusedAnswer, outcomeOf};
 use crate::table::Table;
+use script::check;
 use script::command::Decoded;
 use script::decode;
 use sheet::frame::Frame;
+use sheet::header::Read;
 
 // The paper's number and place, and the table that the run leaves: the registers, which are set, and what was spent.
 pub struct Answer {
@@ -54,4 +57,42 @@ fn run_script(f: Frame, s: &[u8], script: &[u8], log: &mut [u32], revealed: &mut
         table = left;
         at = next;
     }
+}
+
+// "Nothing is run": all registers unset, all counts 0.
+fn refused(number: u32, place: usize) -> Answer
+    ensures { λ r. ⌜ r ≡ refusedAnswer number place ⌝ }
+{
+    Answer {
+        number,
+        place,
+        table: Table::new(),
+    }
+}
+
+// The number of a refused sheet, for the else of a let-else, which binds nothing.
+fn refusal(read: Read) -> u32
+    ensures { λ r. ⌜ r ≡ numberOf read ⌝ }
+{
+    match read {
+        Read::Sheet(_) => 0,
+        Read::Refused(number) => number,
+    }
+}
+
+// Runs a sheet. Opened shares go to the log, the paper's record, and revealed values to the revealed list, each from its start; past what was
+// written they are unchanged.
+pub fn run(sheet: &[u8], log: &mut [u32], revealed: &mut [u32]) -> Answer
+    ensures { λ r. ⌜ outcomeOf r (now (log .exit)) (now (revealed .exit)) ≡ Run.run (now (sheet .entry)) (now (log .entry)) (now (revealed .entry)) ⌝ }
+{
+    let read = sheet::read_sheet(sheet);
+    let Read::Sheet(f) = read else {
+        return refused(refusal(read), 0);
+    };
+    let end = f.input;
+    let script = check::check_script(f.p, f.largest, &sheet[11..end]);
+    if script.number != 0 {
+        return refused(script.number, script.place);
+    }
+    run_script(f, sheet, &sheet[11..end], log, revealed)
 }
