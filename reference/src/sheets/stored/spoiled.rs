@@ -64,7 +64,7 @@ fn triple(triple: usize, amount: u32) -> (u32, Fault) {
     (8, Fault::Triple { triple, amount })
 }
 
-/// A script after which nothing else is wrong with the sheet.
+/// Another script, which is refused with this number.
 fn script(number: u32, bytes: &[u8]) -> (u32, Fault) {
     (number, Fault::Script(bytes.to_vec()))
 }
