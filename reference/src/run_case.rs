@@ -1,0 +1,175 @@
+//! A sheet with the lengths of the lent buffers, its form as bytes, and the lines of its answer.
+
+use crate::run::{run, Answer};
+use crate::table::{end_line, values_revealed, RECORD, REVEALED};
+
+pub const LONGEST_RECORD: usize = 12_000;
+pub const LONGEST_REVEALED: usize = 600;
+
+/// What every number of both buffers is before the run.
+pub const FILLING: u32 = 7_777_777;
+
+#[derive(Clone, Debug, PartialEq)]
+pub struct Case {
+    pub sheet: Vec<u8>,
+    pub record: usize,
+    pub revealed: usize,
+}
+
+/// What a run leaves.
+pub struct Outcome {
+    pub answer: Answer,
+    pub record: Vec<u32>,
+    pub revealed: Vec<u32>,
+}
+
+impl Case {
+    /// The sheet with buffers that take all it writes, and some numbers more.
+    pub fn with_room(sheet: Vec<u8>) -> Case {
+        let answer = run(&sheet, &mut [0; RECORD], &mut [0; REVEALED]);
+        let parties = sheet.get(1).map_or(0, |&n| usize::from(n));
+        Case {
+            record: answer.openings * parties + 3,
+            revealed: values_revealed(&answer) + 2,
+            sheet,
+        }
+    }
+
+    pub fn outcome(&self) -> Outcome {
+        let mut record = vec![FILLING; self.record];
+        let mut revealed = vec![FILLING; self.revealed];
+        Outcome {
+            answer: run(&self.sheet, &mut record, &mut revealed),
+            record,
+            revealed,
+        }
+    }
+
+    /// Three little-endian words, the lengths of sheet, record and revealed list; then the sheet.
+    pub fn to_bytes(&self) -> Vec<u8> {
+        let lengths = [self.sheet.len(), self.record, self.revealed];
+        let words = lengths
+            .iter()
+            .flat_map(|&length| (length as u32).to_le_bytes());
+        words.chain(self.sheet.iter().copied()).collect()
+    }
+}
+
+/// Reads the cases that the bytes consist of.
+pub fn read_all(bytes: &[u8]) -> Result<Vec<Case>, String> {
+    let mut cases = Vec::new();
+    let mut rest = bytes;
+    while !rest.is_empty() {
+        let (case, after) =
+            read_one(rest).map_err(|message| format!("case {}: {message}", cases.len()))?;
+        cases.push(case);
+        rest = after;
+    }
+    Ok(cases)
+}
+
+fn read_one(bytes: &[u8]) -> Result<(Case, &[u8]), String> {
+    let (lengths, rest) = bytes
+        .split_at_checked(12)
+        .ok_or("its lengths are cut off")?;
+    let length = |i: usize| {
+        let word = &lengths[4 * i..][..4];
+        u32::from_le_bytes([word[0], word[1], word[2], word[3]]) as usize
+    };
+    let (sheet, rest) = rest
+        .split_at_checked(length(0))
+        .ok_or("its sheet is cut off")?;
+    let case = Case {
+        sheet: sheet.to_vec(),
+        record: length(1),
+        revealed: length(2),
+    };
+    if case.record > LONGEST_RECORD || case.revealed > LONGEST_REVEALED {
+        return Err("a buffer is too long".to_string());
+    }
+    Ok((case, rest))
+}
+
+/// The end, the set registers, how many cells of unset ones are not 0, and both buffers.
+pub fn lines(case: &Case) -> String {
+    let Outcome {
+        answer,
+        record,
+        revealed,
+    } = case.outcome();
+    let mut lines = end_line(&answer);
+    let mut rest = 0;
+    for (register, (cells, &set)) in answer.registers.iter().zip(&answer.set).enumerate() {
+        if set {
+            lines += &format!("register {register}{}\n", list(cells));
+        } else {
+            rest += cells.iter().filter(|&&cell| cell != 0).count();
+        }
+    }
+    lines += &format!("rest {rest}\n");
+    lines += &format!("record{}\n", list(&record));
+    lines + &format!("revealed{}\n", list(&revealed))
+}
+
+/// Each number with a space before it.
+fn list(numbers: &[u32]) -> String {
+    numbers.iter().map(|number| format!(" {number}")).collect()
+}
+
+#[cfg(test)]
+mod tests {
+    use super::*;
+    use crate::sheets::bench;
+
+    #[test]
+    fn lines_show_the_whole_answer() {
+        let case = Case::with_room(bench::small());
+        assert_eq!((case.record, case.revealed), (12, 3));
+        let expected = "\
+end 0 at 10 inputs 2 masks 0 triples 1 openings 3
+register 0 7 9 11 0 0 0 0
+register 1 7 11 2 0 0 0 0
+register 2 7 12 4 0 0 0 0
+rest 0
+record 5 6 7 2 3 4 7 12 4 7777777 7777777 7777777
+revealed 2 7777777 7777777
+";
+        assert_eq!(lines(&case), expected);
+    }
+
+    /// The product takes six shares, so nothing of it is done where the record takes five.
+    #[test]
+    fn empty_buffers_are_words_alone() {
+        let case = |record| Case {
+            sheet: bench::small(),
+            record,
+            revealed: 0,
+        };
+        let expected = "\
+end 25 at 4 inputs 2 masks 0 triples 0 openings 0
+register 0 7 9 11 0 0 0 0
+register 1 7 11 2 0 0 0 0
+rest 0
+record
+revealed
+";
+        assert_eq!(lines(&case(0)), expected);
+        let filling = " 7777777".repeat(5);
+        let expected = expected.replace("record", &format!("record{filling}"));
+        assert_eq!(lines(&case(5)), expected);
+    }
+
+    #[test]
+    fn refuses_bytes_that_are_no_cases() {
+        let bytes = Case::with_room(bench::small()).to_bytes();
+        assert_eq!(read_all(&bytes).map(|cases| cases.len()), Ok(1));
+        for length in [1, 11, 12, bytes.len() - 1] {
+            assert!(read_all(&bytes[..length]).is_err());
+        }
+        for (place, value) in [(6, 1), (9, 3)] {
+            let mut bytes = bytes.clone();
+            bytes[place] = value;
+            assert!(read_all(&bytes).is_err());
+        }
+    }
+}
