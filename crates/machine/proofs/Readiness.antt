@@ -1,20 +1,19 @@
 -- What a command that is ready finds in the sheet and in the record: one lemma for each kind of command.
 -- Assumes nothing.
 use mathlib.Core.Path.{_≡_, refl, sym, ap, subst, _∙_}
-use mathlib.Core.Bool.{Bool, _&&_}
-use mathlib.Core.List.{List, [], _∷_, _++_}
+use mathlib.Core.Bool.{_&&_}
+use mathlib.Core.List.{List, [], _∷_}
 use Prim.Native.Nat.{ℕ, zero, suc, _+_, _-_, _*_, _^_, _≤_, _<_}
 use native.Mathlib.Nat.{mul-le-mul-right}
 use native.Mathlib.Omega.{arith}
-use borrow.Rule.Slice.PartMut.{putMid, midOf}
 use lib.Dec.{T, ltb, leb, ltb→lt, leb→le}
-use lib.ListN.{length, set, take, drop, length-drop}
+use lib.ListN.{length, set, take, drop, length-take, length-drop}
 use lib.Seq.{take-all}
 use lib.Pow.{pow-mono}
+use borrow.Rule.Slice.PartMut.{putMid, midOf}
 use Rattle.algebra.specs.Lists.{over, first}
 use Rattle.algebra.proofs.Tests.{and-left, and-right}
-use Rattle.model.specs.Fields as Fields
-use Rattle.model.specs.Script.{Command, MUL, MOD, TRUNC, LTZ, OVER, BLOCKS, REVEAL, BITLT, inRanges, register, kIn, mIn}
+use Rattle.model.specs.Script.{Command, MUL, REVEAL, BITLT, inRanges, register, kIn, mIn}
 use Rattle.model.specs.Costs.{cost}
 use Rattle.model.specs.Sheet.{rowsAt, triplesFrom}
 use Rattle.model.specs.Bytes.{sevens}
@@ -28,11 +27,11 @@ use Rattle.steps.proofs.Putting.{length-rows}
 use Rattle.sheet.specs.declared.frame.Frame.{Frame}
 use Rattle.sheet.specs.Framed.{Framed, settingIn}
 use Rattle.machine.specs.declared.table.Table.{Table}
-use Rattle.machine.specs.Tables.{registerIn, countsOf, paid}
-use Rattle.machine.specs.Holding.{Holds, Ready, inputsOf, maskPlace, triplePlace, logPlace}
-use Rattle.machine.proofs.Keeping.{Left, opened-left, register-is, holds-reveal}
+use Rattle.machine.specs.Tables.{registerIn, putTable, countsOf, paid}
+use Rattle.machine.specs.Holding.{Holds, Ready, Performs, inputsOf, maskPlace, triplePlace, logPlace}
+use Rattle.machine.proofs.Keeping.{Left, putCost, putState, opened-left, register-is, holds-reveal, performs-put}
 use Rattle.machine.proofs.Registers.{from-sevens}
-use Rattle.machine.proofs.Places.{n-most, t-most, l-most, field-of, mask-fits, triples-fit, mask-at}
+use Rattle.machine.proofs.Places.{n-most, l-most, field-of, mask-fits, triples-fit, mask-at}
 
 -- the places lie within the sheet and the record
 pub record Within (s : List ℕ) (f : Frame) (log : ℕ) (t : Table) : Type 0 where
@@ -227,3 +226,40 @@ revealed-holds {f = f} {x = x} {a} {v} {at} {row} {last} H hn seven ha er ev ea 
     let e : row ≡ Run.register x a = er ∙ register-is H a ha in
     let ev′ : v ≡ secret (f .p) (f .t) (Run.register x a) = ev ∙ ap (secret (f .p) (f .t)) e in
     rw ev′ (holds-reveal a (Run.register x a) (secret (f .p) (f .t) (Run.register x a)) at last H hn (rw (sym e) seven) ea (rw (sym e) el) room space)
+
+-- the next places fit
+pub next-fits : {s : List ℕ} {f : Frame} {log : ℕ} {c : Command} {t : Table} → Ready s f log c t → length s < 2 ^ 64 → log < 2 ^ 64
+    → (f .l ≤ 31) × (f .n ≤ 7) × (maskPlace f t < 2 ^ 64) × (triplePlace f t < 2 ^ 64) × (logPlace f t < 2 ^ 64)
+next-fits R hs hl =
+    let W = within R in
+    (l-most (R .framed), n-most (R .framed), omega (arith, W .mask), omega (arith, W .triple), omega (arith, W .log-place))
+
+-- what a masked step asks of its places
+module _ {s : List ℕ} {f : Frame} {log : ℕ} {t : Table} {d a k m mask i at : ℕ} (M : Masked s f log t d a k m)
+    (N : (mask ≡ maskPlace f t) × (i ≡ triplePlace f t) × (at ≡ logPlace f t)) where
+  pub mask-room : mask + f .l * (4 * f .n) ≤ length s
+  mask-room = omega (arith, M .mask-room, N .0)
+
+  pub triple-room : i + (f .l + 2 * m - 2) * (12 * f .n) ≤ length s
+  triple-room = omega (arith, M .triple-room, N .1)
+
+  pub part-room : (part : List ℕ) → length part ≡ log → f .n + (f .l + 2 * m - 2) * (f .n + f .n) ≤ length (midOf at (length part - at) part)
+  part-room part e = simp (length-take, length-drop) (omega (arith, M .log-room, N .2))
+
+-- A masked command, whose step is given with what it takes and opens and with what the code's call ensures of it.
+pub masked-performs : {s : List ℕ} {f : Frame} {t r : Table} {log shown last : List ℕ} {d a k m mask i at : ℕ} {y z : Row} (c : Command) (step : Row → Deal → Step)
+    → Framed s f → Masked s f (length log) t d a k m → cost (f .l) c ≡ putCost d 0 1 (f .l + 2 * m - 2) (1 + 2 * (f .l + 2 * m - 2)) (a ∷ [])
+    → ((x : Run.State) → Run.finish (settingIn f) (inputsOf s f) c x ≡ putState (cost (f .l) c) d x (step (Run.register x a) (x .deal)))
+    → ((w : Row) (e : Deal) → length (first [] (e .masks)) ≡ f .l → Took e 1 (f .l + 2 * m - 2) (1 + 2 * (f .l + 2 * m - 2)) (step w e))
+    → (mask ≡ maskPlace f t) × (i ≡ triplePlace f t) × (at ≡ logPlace f t) → y ≡ registerIn t a
+    → ((count : ℕ) (e : Deal) → first [] (e .masks) ≡ rowsAt s (f .n) mask (f .l) → e .triples ≡ triplesFrom s (f .n) i count → f .l + 2 * m ≤ count + 2
+    → (z ≡ step y e .left) × (last ≡ over (Run.written (f .n) (step y e .opened)) (midOf at (length log - at) log)))
+    → length z ≡ 7 → r ≡ putTable t d z → Performs s f c t log shown r (putMid at (length log - at) log last) shown
+masked-performs {f = f} {t} {d = d} {a} {m = m} {z = z} c step F M ec ef took N ey ens seven er =
+    performs-put c d 0 1 (f .l + 2 * m - 2) (1 + 2 * (f .l + 2 * m - 2)) (a ∷ []) z (λ x. step (Run.register x a) (x .deal)) ec ef (M .d-in) (n-most F) seven er
+    (λ log₀ shown₀ x H.
+    step-left H
+    (ens (f .triples - t .spent .triples) (x .deal) (next-mask H (M .masks) (N .0)) (next-triples H (omega (arith, M .triples)) (N .1))
+    (omega (arith, M .triples, M .m-least)))
+    (took (Run.register x a) (x .deal) (mask-length H (M .masks))) (N .2) (M .room)
+    (ap (λ (w : Row). step w (x .deal)) (ey ∙ register-is H a (M .a-in))))
