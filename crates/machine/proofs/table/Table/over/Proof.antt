@@ -2,22 +2,19 @@
 -- Assumes nothing.
 use mathlib.Core.Path.{_≡_, refl}
 use mathlib.Core.List.{List}
-use mathlib.Core.Bool.{_&&_}
 use Prim.Native.Nat.{ℕ, _-_}
 use native.Mathlib.Omega.{arith}
 use lib.ListN.{length}
-use lib.Dec.{ltb}
 use denote.Ref.{now}
 use borrow.Author.Needs.{needs}
-use Rattle.algebra.proofs.Tests.{and-left}
 use Rattle.model.specs.Costs.{cost}
 use Rattle.model.specs.Run.{perform, finish}
-use Rattle.model.specs.Script as Script
-use Rattle.model.specs.Script.{OVER, inRanges, kIn}
+use Rattle.model.specs.Script.{OVER}
 use Rattle.model.specs.Steps.{over}
 use Rattle.model.proofs.Taking.{took-over}
 use Rattle.sheet.specs.Framed.{settingIn}
 use Rattle.sheet.specs.declared.frame.Frame.{Frame}
+use Rattle.script.proofs.InRange.{ranges}
 use Rattle.machine.specs.Holding.{Ready}
 use Rattle.machine.specs.declared.table.Table.{Table}
 use Rattle.machine.proofs.Places.{n-most, t-most, l-most, field-of}
@@ -27,8 +24,8 @@ use Rattle.machine.proofs.table.Table.over.Tie as tie
 
 -- what the command finds
 found : {s : List ℕ} {f : Frame} {log : ℕ} {t : Table} {d a k v : ℕ} → Ready s f log (OVER d a k v) t → Masked s f log t d a k (k - 1)
-unfolding cost inRanges
-found {f = f} {d = d} {a} {k} {v} R = sign-ready (R .framed) _ _ _ (and-left (Script.register d && Script.register a && kIn (f .largest) k) (ltb v (f .p)) (R .ranged)) (R .masks) (R .triples) (R .room)
+unfolding cost
+found {f = f} {d = d} {a} {k} {v} R = sign-ready (R .framed) (ranges (f .p) (f .largest) (OVER d a k v) (R .ranged) .0) (R .masks) (R .triples) (R .room)
 
 next-requires : tie.Need-next-requires
 next-requires c κs = next-fits (c .before .before .pre) (omega arith) (omega arith)

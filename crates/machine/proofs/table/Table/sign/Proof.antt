@@ -9,11 +9,12 @@ use denote.Ref.{now}
 use borrow.Author.Needs.{needs}
 use Rattle.model.specs.Costs.{cost}
 use Rattle.model.specs.Run.{perform, finish}
-use Rattle.model.specs.Script.{LTZ, inRanges}
+use Rattle.model.specs.Script.{LTZ}
 use Rattle.model.specs.Steps.{sign}
 use Rattle.model.proofs.Taking.{took-sign}
 use Rattle.sheet.specs.Framed.{settingIn}
 use Rattle.sheet.specs.declared.frame.Frame.{Frame}
+use Rattle.script.proofs.InRange.{ranges}
 use Rattle.machine.specs.Holding.{Ready}
 use Rattle.machine.specs.declared.table.Table.{Table}
 use Rattle.machine.proofs.Places.{n-most, t-most, l-most, field-of}
@@ -23,8 +24,8 @@ use Rattle.machine.proofs.table.Table.sign.Tie as tie
 
 -- what the command finds
 found : {s : List ℕ} {f : Frame} {log : ℕ} {t : Table} {d a k : ℕ} → Ready s f log (LTZ d a k) t → Masked s f log t d a k (k - 1)
-unfolding cost inRanges
-found R = sign-ready (R .framed) _ _ _ (R .ranged) (R .masks) (R .triples) (R .room)
+unfolding cost
+found {f = f} {d = d} {a} {k} R = sign-ready (R .framed) (ranges (f .p) (f .largest) (LTZ d a k) (R .ranged)) (R .masks) (R .triples) (R .room)
 
 next-requires : tie.Need-next-requires
 next-requires c κs = next-fits (c .before .before .pre) (omega arith) (omega arith)
