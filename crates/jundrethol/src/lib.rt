@@ -28,9 +28,10 @@ pub extern "C" fn jundrethol_run(
     answer.number
 }
 
-// Numbers before slices in the order below: a slice's pointer and length both go in registers or both on the stack, so that it does not
-// matter whether a C compiler takes them as two parameters or as one of two words.
+// The small entries follow, each with the contract of the Rattle entry that it calls. A value goes to the place that C lends for it, 0 in a
+// refusal.
 
+// Refuses 2, 3, 4, 5.
 #[no_mangle]
 pub extern "C" fn jundrethol_share(
     field: u32,
@@ -45,6 +46,7 @@ pub extern "C" fn jundrethol_share(
     sharing::share(field, n, t, secret, coefficients, shares)
 }
 
+// Refuses 2, 3, 4, 5, 6.
 #[no_mangle]
 pub extern "C" fn jundrethol_recover(
     field: u32,
@@ -61,6 +63,7 @@ pub extern "C" fn jundrethol_recover(
     answer.number
 }
 
+// Refuses 2, 11.
 #[no_mangle]
 pub extern "C" fn jundrethol_encode(field: u32, k: u32, a: i64, value: &mut u32) -> u32
     ensures { λ r. ⌜ (r ≡ encodeNumber field k a) × (now (value .exit) ≡ encodeValue field k a) ⌝ }
@@ -70,6 +73,7 @@ pub extern "C" fn jundrethol_encode(field: u32, k: u32, a: i64, value: &mut u32)
     answer.number
 }
 
+// Refuses 2, 5.
 #[no_mangle]
 pub extern "C" fn jundrethol_decode(field: u32, v: u32, a: &mut i64) -> u32
     ensures { λ r. ⌜ (r ≡ decodeNumber field v) × (now (a .exit) ≡ decodeValue field v) ⌝ }
