@@ -1,28 +1,29 @@
-//! Computes sharing, recovery, signed coding and the steps directly from their definitions,
-//! so that the answers of another program can be compared with these.
-
-mod case;
-mod cases;
-mod field;
-mod line;
-mod refusal;
-mod sharing;
-mod signed;
-mod steps;
+//! The command line: writes cases and their answers, and prints the run of a sheet.
 
 use std::io::{self, Read, Write};
 use std::process::ExitCode;
 
+use reference::{case, cases, line, run_case, sheets, steps, table};
+
+const USAGE: &str = "\
+usage: reference cases > FILE | reference answers < FILE
+       reference step-cases > FILE | reference step-answers > FILE
+       reference run-cases > FILE | reference run-answers < FILE
+       reference table < SHEET";
+
 fn main() -> ExitCode {
     let arguments: Vec<_> = std::env::args_os().skip(1).collect();
-    let outcome = match arguments.as_slice() {
-        [command] if command == "cases" => write_cases(),
-        [command] if command == "answers" => write_answers(),
-        [command] if command == "step-cases" => write_step_cases(),
-        [command] if command == "step-answers" => write_step_answers(),
+    let arguments: Vec<_> = arguments.iter().filter_map(|word| word.to_str()).collect();
+    let outcome = match arguments[..] {
+        ["cases"] => write_out(&all_bytes(&cases::all(), |case| case.to_bytes())),
+        ["answers"] => answers(),
+        ["step-cases"] => write_out(&all_bytes(&steps::cases::all(), |case| case.to_bytes())),
+        ["step-answers"] => step_answers(),
+        ["run-cases"] => write_out(&all_bytes(&sheets::stored::all(), |case| case.to_bytes())),
+        ["run-answers"] => run_answers(),
+        ["table"] => read_in().and_then(|sheet| write_out(table::lines(&sheet).as_bytes())),
         _ => {
-            eprintln!("usage: reference cases > FILE | reference answers < FILE");
-            eprintln!("       reference step-cases > FILE | reference step-answers > FILE");
+            eprintln!("{USAGE}");
             return ExitCode::from(2);
         }
     };
@@ -35,40 +36,40 @@ fn main() -> ExitCode {
     }
 }
 
-fn write_cases() -> Result<(), String> {
-    let bytes: Vec<u8> = cases::all()
-        .iter()
-        .flat_map(|case| case.to_bytes())
-        .collect();
-    write_out(&bytes)
+fn all_bytes<T>(cases: &[T], bytes: impl Fn(&T) -> Vec<u8>) -> Vec<u8> {
+    cases.iter().flat_map(bytes).collect()
 }
 
 /// Writes nothing unless every case can be read.
-fn write_answers() -> Result<(), String> {
-    let mut bytes = Vec::new();
-    io::stdin()
-        .read_to_end(&mut bytes)
-        .map_err(|error| format!("cannot read the cases: {error}"))?;
-    let lines: String = case::read_all(&bytes)?.iter().map(line::answer).collect();
+fn answers() -> Result<(), String> {
+    let cases = case::read_all(&read_in()?)?;
+    let lines: String = cases.iter().map(line::answer).collect();
     write_out(lines.as_bytes())
 }
 
-fn write_step_cases() -> Result<(), String> {
-    let bytes: Vec<u8> = steps::cases::all()
-        .iter()
-        .flat_map(|case| case.to_bytes())
-        .collect();
-    write_out(&bytes)
-}
-
 /// The answers to the cases that `step-cases` writes.
-fn write_step_answers() -> Result<(), String> {
+fn step_answers() -> Result<(), String> {
     let lines: Option<String> = steps::cases::all()
         .iter()
         .map(|case| case.lines())
         .collect();
     let lines = lines.ok_or("a case's deal is not what its step takes")?;
     write_out(lines.as_bytes())
+}
+
+/// Writes nothing unless every case can be read.
+fn run_answers() -> Result<(), String> {
+    let cases = run_case::read_all(&read_in()?)?;
+    let lines: String = cases.iter().map(run_case::lines).collect();
+    write_out(lines.as_bytes())
+}
+
+fn read_in() -> Result<Vec<u8>, String> {
+    let mut bytes = Vec::new();
+    io::stdin()
+        .read_to_end(&mut bytes)
+        .map_err(|error| format!("cannot read: {error}"))?;
+    Ok(bytes)
 }
 
 fn write_out(bytes: &[u8]) -> Result<(), String> {

@@ -1,16 +1,39 @@
-//! The numbers that the entries answer with.
+//! The numbers that the entries and the run answer with.
 
-/// The arguments are accepted.
+/// The arguments are accepted; the script ran to its END.
 pub const NONE: u32 = 0;
+/// The sheet has fewer bytes than a header.
+pub const HEADER: u32 = 1;
 /// The field number is not in the table.
 pub const FIELD: u32 = 2;
 /// The number of parties or the threshold is outside its range.
 pub const PARTIES: u32 = 3;
-/// A list has the wrong length.
+/// A list or a sheet has the wrong length, or a count is over its limit.
 pub const LENGTH: u32 = 4;
 /// A secret, coefficient, share or field value is not below the modulus.
 pub const VALUE: u32 = 5;
 /// The row is no sharing.
 pub const ROW: u32 = 6;
-/// k, or the signed number, is outside its range.
+/// A mask is not well formed.
+pub const MASK: u32 = 7;
+/// A triple is not well formed.
+pub const TRIPLE: u32 = 8;
+/// A command byte is not in the table.
+pub const COMMAND: u32 = 9;
+/// Operands are cut off, END is missing, or bytes follow END.
+pub const FORM: u32 = 10;
+/// An operand, k or the signed number is outside its range.
 pub const RANGE: u32 = 11;
+
+/// A register that the command reads is unset.
+pub const UNSET: u32 = 21;
+/// No input row is left.
+pub const NO_INPUT: u32 = 22;
+/// No mask is left.
+pub const NO_MASK: u32 = 23;
+/// Fewer triples are left than the command takes.
+pub const NO_TRIPLES: u32 = 24;
+/// The record cannot take all the command's shares.
+pub const RECORD_FULL: u32 = 25;
+/// The revealed list is full.
+pub const REVEALED_FULL: u32 = 26;

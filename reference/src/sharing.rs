@@ -88,11 +88,6 @@ fn polynomial_of(
     Ok((narrow(polynomial[0]), coefficients))
 }
 
-/// The value at 0 of the polynomial that the first t + 1 shares lie on.
-pub fn secret(field: &Field, threshold: usize, row: &[u64]) -> u64 {
-    interpolate(field, &row[..=threshold])[0]
-}
-
 /// The polynomial of lowest degree that takes `shares[j - 1]` at j, the constant term first.
 fn interpolate(field: &Field, shares: &[u64]) -> Vec<u64> {
     let mut polynomial = vec![0; shares.len()];
@@ -130,7 +125,7 @@ fn times_linear(field: &Field, polynomial: &[u64], root: u64) -> Vec<u64> {
 }
 
 /// The comparison is in u64, because 2t + 1 can exceed a u32.
-fn check_parties(parties: u32, threshold: u32) -> Result<(), u32> {
+pub fn check_parties(parties: u32, threshold: u32) -> Result<(), u32> {
     let permitted = (3..=7).contains(&parties)
         && threshold >= 1
         && 2 * u64::from(threshold) < u64::from(parties);

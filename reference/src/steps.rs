@@ -4,23 +4,21 @@ pub mod case;
 pub mod cases;
 
 use crate::field::Field;
-use crate::sharing::secret;
-
-/// The shares of parties 1 to n.
-pub type Row = Vec<u64>;
+use crate::row::Row;
+use crate::weights::Weights;
 
 /// Rows a, b and c, where c's secret is a's times b's.
-#[derive(Clone, Debug, PartialEq)]
+#[derive(Clone, Copy, Debug, PartialEq)]
 pub struct Triple {
     pub a: Row,
     pub b: Row,
     pub c: Row,
 }
 
-/// What a step works with: the field, the threshold and the rest of the deal; and what was opened so far.
+/// What a step works with: the field, the weights and the rest of the deal; and what was opened so far.
 pub struct Work<'a> {
-    field: &'a Field,
-    threshold: usize,
+    field: &'static Field,
+    weights: &'a Weights,
     /// Each mask as the rows of its bits, bit 0 first.
     masks: std::slice::Iter<'a, Vec<Row>>,
     triples: std::slice::Iter<'a, Triple>,
@@ -28,28 +26,26 @@ pub struct Work<'a> {
 }
 
 impl<'a> Work<'a> {
-    pub fn new(
-        field: &'a Field,
-        threshold: u32,
-        masks: &'a [Vec<Row>],
-        triples: &'a [Triple],
-    ) -> Work<'a> {
+    pub fn new(weights: &'a Weights, masks: &'a [Vec<Row>], triples: &'a [Triple]) -> Work<'a> {
         Work {
-            field,
-            threshold: threshold as usize,
+            field: weights.field(),
+            weights,
             masks: masks.iter(),
             triples: triples.iter(),
             opened: Vec::new(),
         }
     }
 
-    /// How many triples are left.
+    pub fn masks_left(&self) -> usize {
+        self.masks.len()
+    }
+
     pub fn triples_left(&self) -> usize {
         self.triples.len()
     }
 
-    fn open(&mut self, row: Row) -> u64 {
-        let value = secret(self.field, self.threshold, &row);
+    pub fn open(&mut self, row: Row) -> u64 {
+        let value = self.weights.secret(&row);
         self.opened.push(row);
         value
     }
@@ -67,7 +63,7 @@ impl<'a> Work<'a> {
     /// BITLT of v against the bits, bit 0 first, of which there is at least one.
     pub fn compare(&mut self, v: u64, bits: &[Row]) -> Option<Row> {
         let zero = self.constant(0, bits[0].len());
-        let mut lt = if v & 1 == 0 { bits[0].clone() } else { zero };
+        let mut lt = if v & 1 == 0 { bits[0] } else { zero };
         for (i, bit) in bits.iter().enumerate().skip(1) {
             let q = self.multiply(bit, &lt)?;
             lt = if v >> i & 1 == 0 {
@@ -134,27 +130,27 @@ impl<'a> Work<'a> {
         number % u64::from(self.field.modulus)
     }
 
-    fn constant(&self, number: u64, n: usize) -> Row {
-        vec![self.value(number); n]
+    pub fn constant(&self, number: u64, n: usize) -> Row {
+        Row::constant(self.value(number), n)
     }
 
-    fn times(&self, number: u64, row: &Row) -> Row {
+    pub fn times(&self, number: u64, row: &Row) -> Row {
         let number = self.value(number);
         row.iter()
             .map(|&share| self.field.multiply(number, share))
             .collect()
     }
 
-    fn plus(&self, left: &Row, right: &Row) -> Row {
+    pub fn plus(&self, left: &Row, right: &Row) -> Row {
         left.iter()
-            .zip(right)
+            .zip(right.iter())
             .map(|(&x, &y)| self.field.add(x, y))
             .collect()
     }
 
-    fn minus(&self, left: &Row, right: &Row) -> Row {
+    pub fn minus(&self, left: &Row, right: &Row) -> Row {
         left.iter()
-            .zip(right)
+            .zip(right.iter())
             .map(|(&x, &y)| self.field.subtract(x, y))
             .collect()
     }
@@ -178,7 +174,7 @@ mod tests {
     }
 
     /// The secret left, the triples spent and the openings of one step with this mask.
-    fn worked<F>(field: &Field, r: u32, step: F) -> (u64, usize, usize)
+    fn worked<F>(field: &'static Field, r: u32, step: F) -> (u64, usize, usize)
     where
         F: Fn(&mut Work) -> Option<Row>,
     {
@@ -189,10 +185,11 @@ mod tests {
             c: sharing(field, 12),
         };
         let triples = vec![triple; 100];
-        let mut work = Work::new(field, 1, &masks, &triples);
+        let weights = Weights::new(field, 3, 1);
+        let mut work = Work::new(&weights, &masks, &triples);
         let left = step(&mut work).unwrap();
         let spent = triples.len() - work.triples_left();
-        (secret(field, 1, &left), spent, work.opened.len())
+        (weights.secret(&left), spent, work.opened.len())
     }
 
     #[test]

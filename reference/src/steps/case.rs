@@ -1,7 +1,9 @@
 //! One call of a step, its form as little-endian 32-bit words, and the lines that tell its answer.
 
-use super::{Row, Triple, Work};
+use super::{Triple, Work};
 use crate::field::Field;
+use crate::row::Row;
+use crate::weights::Weights;
 
 /// A command of the paper that opens values, under its byte.
 #[derive(Clone, Copy, Debug, PartialEq)]
@@ -39,7 +41,8 @@ pub struct Answer {
 impl StepCase {
     /// None unless the deal has exactly the triples that the step takes.
     pub fn answer(&self) -> Option<Answer> {
-        let mut work = Work::new(self.field, self.threshold, &self.masks, &self.triples);
+        let weights = Weights::new(self.field, self.parties as usize, self.threshold as usize);
+        let mut work = Work::new(&weights, &self.masks, &self.triples);
         let (first, k, m) = (&self.operands[0], self.k, self.m);
         let left = match self.step {
             Step::Mul => work.multiply(first, &self.operands[1]),
@@ -72,7 +75,9 @@ impl StepCase {
         ];
         let triples = self.triples.iter().flat_map(|x| [&x.a, &x.b, &x.c]);
         let rows = self.operands.iter().chain(self.masks.iter().flatten());
-        let shares = rows.chain(triples).flatten().map(|&share| share as u32);
+        let shares = rows
+            .chain(triples)
+            .flat_map(|row| row.iter().map(|&share| share as u32));
         start
             .into_iter()
             .chain(shares)

@@ -1,10 +1,9 @@
 //! The step cases: each step at the ends of its ranges, in every field.
 
 use super::case::{Step, StepCase};
-use super::{Row, Triple};
 use crate::cases::generator::Generator;
-use crate::cases::row_of;
-use crate::field::{Field, FIELDS};
+use crate::dealer::Dealer;
+use crate::row::Row;
 
 const SEED: u64 = 0x5EED_0002;
 
@@ -14,13 +13,10 @@ const PARTIES: [(u32, u32); 2] = [(3, 1), (7, 3)];
 pub fn all() -> Vec<StepCase> {
     let mut generator = Generator::new(SEED);
     let mut cases = Vec::new();
-    for (number, field) in (0..).zip(&FIELDS) {
+    for number in 0..4 {
         for parties in PARTIES {
             let mut maker = Maker {
-                generator: &mut generator,
-                number,
-                field,
-                parties,
+                dealer: Dealer::new(&mut generator, number, parties),
             };
             cases.extend(maker.products());
             cases.extend(maker.comparisons());
@@ -31,19 +27,16 @@ pub fn all() -> Vec<StepCase> {
 }
 
 struct Maker<'a> {
-    generator: &'a mut Generator,
-    number: u32,
-    field: &'static Field,
-    parties: (u32, u32),
+    dealer: Dealer<'a>,
 }
 
 impl Maker<'_> {
     fn products(&mut self) -> Vec<StepCase> {
-        let last = self.field.modulus - 1;
+        let last = self.dealer.field.modulus - 1;
         [(0, 0), (1, last), (last, last), (2, last / 2 + 1)]
             .into_iter()
             .map(|(left, right)| {
-                let operands = vec![self.sharing(left), self.sharing(right)];
+                let operands = vec![self.dealer.sharing(left), self.dealer.sharing(right)];
                 self.case(Step::Mul, (0, 0, 0), operands, &[], 1)
             })
             .collect()
@@ -62,11 +55,11 @@ impl Maker<'_> {
         ] {
             let top = ((1u64 << w) - 1) as u32;
             for spelled in [v, v.saturating_sub(1), (v + 1).min(top)] {
-                let bits = self.bits(spelled, w);
+                let bits = self.dealer.bits(spelled, w);
                 cases.push(self.case(Step::Bitlt, (0, w, v), bits, &[], w - 1));
             }
         }
-        let other = (0..8).map(|_| self.random_sharing()).collect();
+        let other = (0..8).map(|_| self.dealer.random_sharing()).collect();
         cases.push(self.case(Step::Bitlt, (0, 8, 0x5A), other, &[], 7));
         cases
     }
@@ -75,9 +68,13 @@ impl Maker<'_> {
     /// The operand −2^(k−1) makes X 0 and C equal to r.
     fn masked(&mut self) -> Vec<StepCase> {
         let mut cases = Vec::new();
-        let (p, largest) = (self.field.modulus, self.field.largest_k);
+        let (p, largest) = (self.dealer.field.modulus, self.dealer.field.largest_k);
         let widths = [(largest, largest - 1), (largest, 1), (2, 1)];
-        let kept = if self.parties == PARTIES[0] { 3 } else { 1 };
+        let kept = if self.dealer.parties == PARTIES[0] {
+            3
+        } else {
+            1
+        };
         for (k, m) in widths.into_iter().take(kept) {
             let half = 1 << (k - 1);
             let (lowest, highest) = (p - half, half - 1);
@@ -98,7 +95,7 @@ impl Maker<'_> {
                 (Step::Over, 1, 1),
                 (Step::Blocks, highest, 0),
             ] {
-                let r = self.generator.below(p);
+                let r = self.dealer.generator.below(p);
                 cases.push(self.masked_case(step, (k, m, v), a, r));
             }
         }
@@ -110,8 +107,8 @@ impl Maker<'_> {
             Step::Ltz | Step::Over => k - 1,
             _ => m,
         };
-        let operands = vec![self.sharing(a)];
-        let triples = self.field.bits() + 2 * low - 2;
+        let operands = vec![self.dealer.sharing(a)];
+        let triples = self.dealer.field.bits() + 2 * low - 2;
         self.case(step, (k, m, v), operands, &[r], triples)
     }
 
@@ -123,56 +120,20 @@ impl Maker<'_> {
         masks: &[u32],
         triples: u32,
     ) -> StepCase {
-        let masks = masks
-            .iter()
-            .map(|&r| self.bits(r, self.field.bits()))
-            .collect();
+        let masks = masks.iter().map(|&r| self.dealer.mask(r)).collect();
         StepCase {
             step,
-            number: self.number,
-            field: self.field,
-            parties: self.parties.0,
-            threshold: self.parties.1,
+            number: self.dealer.number,
+            field: self.dealer.field,
+            parties: self.dealer.parties.0,
+            threshold: self.dealer.parties.1,
             k,
             m,
             v,
             operands,
             masks,
-            triples: (0..triples).map(|_| self.triple()).collect(),
+            triples: self.dealer.triples(triples as usize),
         }
-    }
-
-    fn triple(&mut self) -> Triple {
-        let (a, b) = (self.random_value(), self.random_value());
-        let c = self.field.multiply(u64::from(a), u64::from(b)) as u32;
-        Triple {
-            a: self.sharing(a),
-            b: self.sharing(b),
-            c: self.sharing(c),
-        }
-    }
-
-    /// Sharings of the lowest bits of a number, bit 0 first.
-    fn bits(&mut self, number: u32, width: u32) -> Vec<Row> {
-        (0..width).map(|i| self.sharing(number >> i & 1)).collect()
-    }
-
-    fn random_sharing(&mut self) -> Row {
-        let value = self.random_value();
-        self.sharing(value)
-    }
-
-    fn random_value(&mut self) -> u32 {
-        self.generator.below(self.field.modulus)
-    }
-
-    fn sharing(&mut self, value: u32) -> Row {
-        let (n, t) = self.parties;
-        let coefficients = self.generator.list(t as usize, self.field.modulus);
-        row_of(self.field, value, &coefficients, n)
-            .into_iter()
-            .map(u64::from)
-            .collect()
     }
 }
 

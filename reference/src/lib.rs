@@ -1,0 +1,20 @@
+//! Computes directly from the definitions what the proved library computes: sharing, recovery,
+//! signed coding, the steps, and the run of a whole sheet.
+
+pub mod case;
+pub mod cases;
+pub mod dealer;
+pub mod field;
+pub mod line;
+pub mod refusal;
+pub mod row;
+pub mod run;
+pub mod run_case;
+pub mod script;
+pub mod sharing;
+pub mod sheet;
+pub mod sheets;
+pub mod signed;
+pub mod steps;
+pub mod table;
+pub mod weights;

@@ -1,0 +1,127 @@
+//! Sheets to run: drawn from a seed and an index, stored, and for measuring time.
+
+pub mod bench;
+mod draft;
+mod drawer;
+mod fault;
+mod good;
+pub mod stored;
+mod wrong;
+
+use crate::cases::generator::Generator;
+use crate::run_case::{Case, LONGEST_RECORD, LONGEST_REVEALED};
+use good::Good;
+
+/// A good sheet, a near miss or a damaged sheet, with buffers of any length.
+pub fn sheet_for(seed: u64, index: u64) -> Case {
+    let mut generator = Generator::new(mixed(seed, index));
+    let good = Good::draw(&mut generator);
+    let (record, revealed) = (
+        record_length(&mut generator, &good),
+        revealed_length(&mut generator, &good),
+    );
+    let sheet = match generator.below(8) {
+        0..=4 => good.draft.to_bytes(),
+        5..=6 => near_miss(&mut generator, good),
+        _ => damaged(&mut generator, good.draft.to_bytes()),
+    };
+    Case {
+        sheet,
+        record,
+        revealed,
+    }
+}
+
+/// Numbers far apart for indices next to each other.
+fn mixed(seed: u64, index: u64) -> u64 {
+    let mut x = seed.wrapping_add(index.wrapping_mul(0x9E37_79B9_7F4A_7C15));
+    x = (x ^ (x >> 30)).wrapping_mul(0xBF58_476D_1CE4_E5B9);
+    x = (x ^ (x >> 27)).wrapping_mul(0x94D0_49BB_1331_11EB);
+    x ^ (x >> 31)
+}
+
+/// Mostly room for the whole script, else for the commands up to one of them, or one less.
+fn record_length(generator: &mut Generator, good: &Good) -> usize {
+    let n = usize::from(good.draft.parties);
+    let whole = n * good.openings_before(good.commands.len());
+    let until = generator.below(good.commands.len() as u32 + 1) as usize;
+    let part = n * good.openings_before(until);
+    let length = match generator.below(16) {
+        0..=5 => whole,
+        6..=9 => whole + generator.below(20) as usize,
+        10 => whole.saturating_sub(1),
+        11 => part,
+        12 => part.saturating_sub(1),
+        13 => part + generator.below(7) as usize,
+        14 => generator.below(whole as u32 + 1) as usize,
+        _ => 0,
+    };
+    length.min(LONGEST_RECORD)
+}
+
+fn revealed_length(generator: &mut Generator, good: &Good) -> usize {
+    let whole = good.reveals();
+    let length = match generator.below(16) {
+        0..=7 => whole,
+        8..=11 => whole + generator.below(10) as usize,
+        12..=14 => whole.saturating_sub(1),
+        _ => generator.below(whole as u32 + 1) as usize,
+    };
+    length.min(LONGEST_REVEALED)
+}
+
+/// A good sheet with one to three faults.
+fn near_miss(generator: &mut Generator, good: Good) -> Vec<u8> {
+    let count = 1 + generator.below(3);
+    let faults: Vec<_> = (0..count)
+        .map(|_| fault::draw(generator, &good.draft))
+        .collect();
+    fault::with_faults(generator, good.draft, faults)
+}
+
+/// Some bytes changed, or the sheet cut or made longer.
+fn damaged(generator: &mut Generator, mut sheet: Vec<u8>) -> Vec<u8> {
+    let length = sheet.len() as u32;
+    match generator.below(6) {
+        0 => sheet.truncate(generator.below(length) as usize),
+        1 => {
+            let more = 1 + generator.below(12);
+            sheet.extend((0..more).map(|_| generator.next() as u8));
+        }
+        _ => {
+            let bound = generator.pick(&[11, 64, length]).min(length);
+            for _ in 0..=generator.below(3) {
+                let place = generator.below(bound) as usize;
+                let any = generator.next() as u8;
+                sheet[place] ^= generator.pick(&[1, 2, 4, 0x80, any]);
+            }
+        }
+    }
+    sheet
+}
+
+#[cfg(test)]
+mod tests {
+    use super::*;
+
+    #[test]
+    fn the_same_index_gives_the_same_sheet() {
+        for index in 0..50 {
+            assert_eq!(sheet_for(1, index), sheet_for(1, index));
+            assert_ne!(sheet_for(1, index).sheet, sheet_for(2, index).sheet);
+        }
+    }
+
+    #[test]
+    fn every_number_is_drawn() {
+        let mut seen = [0; 27];
+        for index in 0..20_000 {
+            let outcome = sheet_for(5, index).outcome();
+            seen[outcome.answer.number as usize] += 1;
+        }
+        for number in (0..=11).chain(21..=26) {
+            assert!(seen[number] >= 10, "{number}: {seen:?}");
+        }
+        assert!(seen[0] >= 4_000, "{seen:?}");
+    }
+}

@@ -1,0 +1,90 @@
+//! The stored cases, ordered by subject.
+
+mod commands;
+mod drawn;
+mod ends;
+mod figures;
+mod operands;
+mod scripts;
+mod spoiled;
+mod stops;
+
+use super::bench;
+use super::draft::Draft;
+use crate::cases::generator::Generator;
+use crate::dealer::Dealer;
+use crate::run_case::Case;
+use crate::script::command::Command;
+
+const SEED: u64 = 0x5EED_0004;
+
+pub fn all() -> Vec<Case> {
+    let mut generator = Generator::new(SEED);
+    let mut cases = figures::all(&mut generator);
+    cases.extend(commands::all(&mut generator));
+    cases.extend(operands::all(&mut generator));
+    cases.extend(ends::all(&mut generator));
+    cases.extend(spoiled::all(&mut generator));
+    cases.extend(scripts::all(&mut generator));
+    cases.extend(stops::all(&mut generator));
+    cases.extend(drawn::all());
+    cases.push(Case::with_room(bench::largest()));
+    cases
+}
+
+/// Three parties in this field; inputs of these secrets, masks of these numbers, and as many
+/// triples as the commands take.
+fn case(
+    generator: &mut Generator,
+    number: u32,
+    commands: &[Command],
+    secrets: &[u32],
+    masks: &[u32],
+) -> Case {
+    let mut dealer = Dealer::new(generator, number, (3, 1));
+    Case::with_room(Draft::deal(&mut dealer, commands, secrets, masks).to_bytes())
+}
+
+/// Constants that are the bits of a number, bit 0 in register b.
+fn bits_at(b: u8, w: u8, number: u32) -> Vec<Command> {
+    (0..w)
+        .map(|i| Command::Const {
+            d: b + i,
+            v: number >> i & 1,
+        })
+        .collect()
+}
+
+#[cfg(test)]
+mod tests {
+    use super::*;
+    use crate::run_case::{lines, read_all};
+
+    #[test]
+    fn cases_are_always_the_same_and_read_back() {
+        let cases = all();
+        assert_eq!(cases, all());
+        let bytes: Vec<u8> = cases.iter().flat_map(Case::to_bytes).collect();
+        assert_eq!(read_all(&bytes), Ok(cases));
+        assert!(bytes.len() < 400_000, "{}", bytes.len());
+    }
+
+    #[test]
+    fn answers_are_within_bounds() {
+        let cases = all();
+        assert!((400..=620).contains(&cases.len()), "{}", cases.len());
+        let length: usize = cases.iter().map(|case| lines(case).len()).sum();
+        assert!(length < 800_000, "{length}");
+    }
+
+    #[test]
+    fn every_number_is_answered_more_than_once() {
+        let mut seen = [0; 27];
+        for case in all() {
+            seen[case.outcome().answer.number as usize] += 1;
+        }
+        for number in (0..=11).chain(21..=26) {
+            assert!(seen[number] >= 4, "{number}: {seen:?}");
+        }
+    }
+}

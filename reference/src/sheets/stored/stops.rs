@@ -1,0 +1,272 @@
+//! Runs that the state stops: 21 to 26, alone and where several are tried.
+
+use super::bits_at;
+use crate::cases::generator::Generator;
+use crate::dealer::Dealer;
+use crate::field::FIELDS;
+use crate::run_case::Case;
+use crate::script::command::Command;
+use crate::sheets::draft::Draft;
+
+/// A command, and what is left for it after the ones before it.
+struct Stop {
+    command: Command,
+    inputs: usize,
+    masks: usize,
+    triples: usize,
+    /// Numbers that the record still takes.
+    record: usize,
+    revealed: usize,
+}
+
+pub fn all(generator: &mut Generator) -> Vec<Case> {
+    stops()
+        .iter()
+        .map(|(_, stop)| stopped(generator, stop))
+        .collect()
+}
+
+/// Registers 0 to 4 are set, one by LOAD and the others by CONST, and register 4 is revealed.
+fn before() -> Vec<Command> {
+    let mut commands = bits_at(0, 4, 0b1011);
+    commands.extend([Command::Load { d: 4 }, Command::Reveal { a: 4 }]);
+    commands
+}
+
+fn stopped(generator: &mut Generator, stop: &Stop) -> Case {
+    let mut commands = before();
+    commands.extend([stop.command, Command::Const { d: 9, v: 9 }]);
+    let mut dealer = Dealer::new(generator, 0, (3, 1));
+    let secrets = vec![10; 1 + stop.inputs];
+    let mut draft = Draft::deal(&mut dealer, &commands, &secrets, &vec![11; stop.masks]);
+    draft.triples = dealer.triples(stop.triples);
+    Case {
+        sheet: draft.to_bytes(),
+        record: 3 + stop.record,
+        revealed: 1 + stop.revealed,
+    }
+}
+
+/// Commands whose operands are set, with all that they take, and a target that is set before.
+fn allowed() -> [Command; 8] {
+    let (d, a, k, m) = (3, 4, 3, 1);
+    [
+        Command::Mul { d, a, b: 0 },
+        Command::Mod { d, a, k, m },
+        Command::Trunc { d, a, k, m: 2 },
+        Command::Ltz { d, a, k },
+        Command::Over { d, a, k, v: 12 },
+        Command::Blocks { d, a, k: 2, m },
+        Command::Bitlt {
+            d,
+            b: 0,
+            w: 4,
+            v: 9,
+        },
+        Command::Reveal { a },
+    ]
+}
+
+/// The number that each run ends with, and what is left for its command.
+fn stops() -> Vec<(u32, Stop)> {
+    let mut stops = unset();
+    for d in [0, 4, 62, 63] {
+        stops.push((22, nothing(Command::Load { d })));
+    }
+    let inputs = 1;
+    stops.push((
+        0,
+        Stop {
+            inputs,
+            ..nothing(Command::Load { d: 63 })
+        },
+    ));
+    for command in allowed() {
+        stops.extend(short_of(command));
+    }
+    stops.extend(short_of(Command::Reveal { a: 0 }));
+    stops
+}
+
+fn nothing(command: Command) -> Stop {
+    Stop {
+        command,
+        inputs: 0,
+        masks: 0,
+        triples: 0,
+        record: 0,
+        revealed: 0,
+    }
+}
+
+/// Just enough of everything.
+fn enough(command: Command) -> Stop {
+    let cost = command.cost(&FIELDS[0]);
+    Stop {
+        command,
+        inputs: 0,
+        masks: cost.masks,
+        triples: cost.triples,
+        record: 3 * cost.openings(),
+        revealed: cost.revealed,
+    }
+}
+
+/// Just enough, one less of each thing that the command takes, and nothing from some thing on.
+fn short_of(command: Command) -> Vec<(u32, Stop)> {
+    let Stop {
+        masks,
+        triples,
+        record,
+        revealed,
+        ..
+    } = enough(command);
+    let mut stops = vec![(0, enough(command))];
+    if masks > 0 {
+        stops.push((23, nothing(command)));
+        stops.push((
+            23,
+            Stop {
+                masks: 0,
+                ..enough(command)
+            },
+        ));
+        stops.push((
+            24,
+            Stop {
+                masks,
+                ..nothing(command)
+            },
+        ));
+    }
+    if triples > 0 {
+        stops.push((
+            24,
+            Stop {
+                triples: triples - 1,
+                ..enough(command)
+            },
+        ));
+        stops.push((
+            25,
+            Stop {
+                masks,
+                triples,
+                ..nothing(command)
+            },
+        ));
+    }
+    stops.push((
+        25,
+        Stop {
+            record: record - 1,
+            ..enough(command)
+        },
+    ));
+    if revealed > 0 {
+        stops.push((25, nothing(command)));
+        stops.push((
+            26,
+            Stop {
+                revealed: 0,
+                ..enough(command)
+            },
+        ));
+        stops.push((
+            26,
+            Stop {
+                record: 9,
+                ..nothing(command)
+            },
+        ));
+    }
+    stops
+}
+
+/// Commands that read a register that is unset, where nothing else is left either.
+fn unset() -> Vec<(u32, Stop)> {
+    let (d, a, k, m) = (0, 63, 3, 1);
+    let mut commands = vec![
+        Command::Scale { d, a, v: 1 },
+        Command::Mod { d, a, k, m },
+        Command::Trunc { d, a, k, m },
+        Command::Ltz { d, a, k },
+        Command::Over { d, a, k, v: 1 },
+        Command::Blocks { d, a, k, m },
+        Command::Reveal { a },
+        Command::Reveal { a: 5 },
+        Command::Bitlt {
+            d: 5,
+            b: 5,
+            w: 1,
+            v: 0,
+        },
+        Command::Bitlt {
+            d,
+            b: 1,
+            w: 5,
+            v: 0,
+        },
+        Command::Bitlt {
+            d,
+            b: 0,
+            w: 31,
+            v: 7,
+        },
+        Command::Bitlt {
+            d,
+            b: 33,
+            w: 31,
+            v: 7,
+        },
+    ];
+    for (a, b) in [(5, 0), (0, 5), (5, 5)] {
+        commands.extend([
+            Command::Add { d: 5, a, b },
+            Command::Sub { d, a, b },
+            Command::Mul { d, a, b },
+        ]);
+    }
+    commands
+        .into_iter()
+        .map(|command| (21, nothing(command)))
+        .collect()
+}
+
+#[cfg(test)]
+mod tests {
+    use super::*;
+    use crate::run_case::FILLING;
+
+    /// The place of the command after those that are always there.
+    const PLACE: usize = 4 * 6 + 2 + 2;
+
+    #[test]
+    fn runs_stop_with_their_numbers_at_the_command() {
+        for (number, stop) in stops() {
+            let outcome = stopped(&mut Generator::new(6), &stop).outcome();
+            let answer = outcome.answer;
+            assert_eq!(answer.number, number, "{:?}", stop.command);
+            if number == 0 {
+                assert!(answer.set[9] && answer.place > PLACE);
+                continue;
+            }
+            assert_eq!(answer.place, PLACE);
+            let counts = [answer.inputs, answer.masks, answer.triples, answer.openings];
+            assert_eq!(counts, [1, 0, 0, 1]);
+            assert!(outcome.record[3..].iter().all(|&x| x == FILLING));
+            assert!(outcome.revealed[1..].iter().all(|&x| x == FILLING));
+            assert_eq!(outcome.revealed[0], 10);
+        }
+    }
+
+    #[test]
+    fn a_refused_command_leaves_every_register() {
+        for (_, stop) in stops().iter().filter(|(number, _)| *number != 0) {
+            let answer = stopped(&mut Generator::new(6), stop).outcome().answer;
+            assert_eq!(answer.registers[3], [1, 1, 1, 0, 0, 0, 0]);
+            assert_eq!(answer.registers[5..], [[0; 7]; 59]);
+            assert_eq!(answer.set.iter().filter(|&&set| set).count(), 5);
+        }
+    }
+}

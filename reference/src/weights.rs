@@ -1,0 +1,100 @@
+//! Lagrange's weights, worked out once for a field and a number of parties and a threshold.
+
+use crate::field::Field;
+
+/// What the first t + 1 shares of a sharing say of its polynomial elsewhere.
+pub struct Weights {
+    field: &'static Field,
+    at_zero: Vec<u64>,
+    /// For each party after the first t + 1.
+    at_later: Vec<Vec<u64>>,
+}
+
+impl Weights {
+    pub fn new(field: &'static Field, parties: usize, threshold: usize) -> Weights {
+        let fixing = threshold as u64 + 1;
+        Weights {
+            field,
+            at_zero: weights_at(field, 0, fixing),
+            at_later: (fixing + 1..=parties as u64)
+                .map(|party| weights_at(field, party, fixing))
+                .collect(),
+        }
+    }
+
+    pub fn field(&self) -> &'static Field {
+        self.field
+    }
+
+    /// The value at 0 of the polynomial that the first t + 1 shares lie on.
+    pub fn secret(&self, row: &[u64]) -> u64 {
+        self.value(&self.at_zero, row)
+    }
+
+    /// Whether one polynomial of degree at most t takes share j at j.
+    pub fn is_sharing(&self, row: &[u64]) -> bool {
+        let later = &row[self.at_zero.len()..];
+        self.at_later
+            .iter()
+            .zip(later)
+            .all(|(weights, &share)| self.value(weights, row) == share)
+    }
+
+    fn value(&self, weights: &[u64], row: &[u64]) -> u64 {
+        weights.iter().zip(row).fold(0, |sum, (&weight, &share)| {
+            self.field.add(sum, self.field.multiply(weight, share))
+        })
+    }
+}
+
+/// The weight at x of each party from 1 to `points`.
+fn weights_at(field: &Field, x: u64, points: u64) -> Vec<u64> {
+    (1..=points)
+        .map(|party| weight(field, x, party, points))
+        .collect()
+}
+
+/// The product of (x - other) / (party - other) over every other point.
+fn weight(field: &Field, x: u64, party: u64, points: u64) -> u64 {
+    let others = (1..=points).filter(|&other| other != party);
+    let (above, below) = others.fold((1, 1), |(above, below), other| {
+        (
+            field.multiply(above, field.subtract(x, other)),
+            field.multiply(below, field.subtract(party, other)),
+        )
+    });
+    field.multiply(above, field.inverse(below))
+}
+
+#[cfg(test)]
+mod tests {
+    use super::*;
+    use crate::cases::generator::Generator;
+    use crate::cases::{row_of, PERMITTED};
+    use crate::field::FIELDS;
+    use crate::sharing::recover;
+
+    #[test]
+    fn agrees_with_recovery_of_the_whole_polynomial() {
+        let mut generator = Generator::new(3);
+        for (number, field) in (0..).zip(&FIELDS) {
+            for (n, t) in PERMITTED {
+                let weights = Weights::new(field, n as usize, t as usize);
+                for round in 0..40 {
+                    let secret = generator.below(field.modulus);
+                    let coefficients = generator.list(t as usize, field.modulus);
+                    let mut row = row_of(field, secret, &coefficients, n);
+                    if round % 2 == 1 {
+                        row[generator.below(n) as usize] = generator.below(field.modulus);
+                    }
+                    let (refused, value) = recover(number, n, t, &row, &mut vec![0; t as usize]);
+                    let row: Vec<u64> = row.into_iter().map(u64::from).collect();
+                    assert_eq!(weights.is_sharing(&row), refused == 0);
+                    if refused == 0 {
+                        assert_eq!(weights.secret(&row), u64::from(value));
+                    }
+                }
+            }
+        }
+    }
+}
