@@ -115,3 +115,61 @@ pub fn lines(case: &Case) -> String {
 fn list(numbers: &[u32]) -> String {
     numbers.iter().map(|number| format!(" {number}")).collect()
 }
+
+#[cfg(test)]
+mod tests {
+    use super::*;
+    use crate::sheets::bench;
+
+    #[test]
+    fn lines_show_the_whole_answer() {
+        let case = Case::with_room(bench::small());
+        assert_eq!((case.record, case.revealed), (12, 3));
+        let expected = "\
+end 0 at 10 inputs 2 masks 0 triples 1 openings 3
+register 0 7 9 11 0 0 0 0
+register 1 7 11 2 0 0 0 0
+register 2 7 12 4 0 0 0 0
+rest 0
+record 5 6 7 2 3 4 7 12 4 7777777 7777777 7777777
+revealed 2 7777777 7777777
+";
+        assert_eq!(lines(&case), expected);
+    }
+
+    /// The product takes six shares, so nothing of it is done where the record takes five.
+    #[test]
+    fn empty_buffers_are_words_alone() {
+        let case = |record| Case {
+            sheet: bench::small(),
+            record,
+            revealed: 0,
+        };
+        let expected = "\
+end 25 at 4 inputs 2 masks 0 triples 0 openings 0
+register 0 7 9 11 0 0 0 0
+register 1 7 11 2 0 0 0 0
+rest 0
+record
+revealed
+";
+        assert_eq!(lines(&case(0)), expected);
+        let filling = " 7777777".repeat(5);
+        let expected = expected.replace("record", &format!("record{filling}"));
+        assert_eq!(lines(&case(5)), expected);
+    }
+
+    #[test]
+    fn refuses_bytes_that_are_no_cases() {
+        let bytes = Case::with_room(bench::small()).to_bytes();
+        assert_eq!(read_all(&bytes).map(|cases| cases.len()), Ok(1));
+        for length in [1, 11, 12, bytes.len() - 1] {
+            assert!(read_all(&bytes[..length]).is_err());
+        }
+        for (place, value) in [(6, 1), (9, 3)] {
+            let mut bytes = bytes.clone();
+            bytes[place] = value;
+            assert!(read_all(&bytes).is_err());
+        }
+    }
+}

@@ -47,14 +47,13 @@ fn record_length(generator: &mut Generator, good: &Good) -> usize {
     let until = generator.below(good.commands.len() as u32 + 1) as usize;
     let part = n * good.openings_before(until);
     let length = match generator.below(16) {
-        0..=5 => whole,
-        6..=9 => whole + generator.below(20) as usize,
-        10 => whole.saturating_sub(1),
-        11 => part,
-        12 => part.saturating_sub(1),
-        13 => part + generator.below(7) as usize,
-        14 => generator.below(whole as u32 + 1) as usize,
-        _ => 0,
+        0..=6 => whole,
+        7..=10 => whole + generator.below(20) as usize,
+        11 => whole.saturating_sub(1),
+        12 => part,
+        13 => part.saturating_sub(1),
+        14 => part + generator.below(7) as usize,
+        _ => generator.below(whole as u32 + 1) as usize,
     };
     length.min(LONGEST_RECORD)
 }
@@ -64,7 +63,8 @@ fn revealed_length(generator: &mut Generator, good: &Good) -> usize {
     let length = match generator.below(16) {
         0..=7 => whole,
         8..=11 => whole + generator.below(10) as usize,
-        12..=14 => whole.saturating_sub(1),
+        12..=13 => whole.saturating_sub(1),
+        14 => 0,
         _ => generator.below(whole as u32 + 1) as usize,
     };
     length.min(LONGEST_REVEALED)
@@ -86,13 +86,13 @@ fn damaged(generator: &mut Generator, mut sheet: Vec<u8>) -> Vec<u8> {
         0 => sheet.truncate(generator.below(length) as usize),
         1 => {
             let more = 1 + generator.below(12);
-            sheet.extend((0..more).map(|_| generator.next() as u8));
+            sheet.extend((0..more).map(|_| generator.any() as u8));
         }
         _ => {
             let bound = generator.pick(&[11, 64, length]).min(length);
             for _ in 0..=generator.below(3) {
                 let place = generator.below(bound) as usize;
-                let any = generator.next() as u8;
+                let any = generator.any() as u8;
                 sheet[place] ^= generator.pick(&[1, 2, 4, 0x80, any]);
             }
         }

@@ -1,5 +1,6 @@
 //! The lines of the program `table`.
 
+use crate::field::FIELDS;
 use crate::refusal;
 use crate::run::{run, Answer};
 use crate::signed::decode;
@@ -39,7 +40,7 @@ pub fn end_line(answer: &Answer) -> String {
 /// The lines before the last of an accepted sheet.
 fn run_lines(sheet: &[u8], answer: &Answer, record: &[u32], revealed: &[u32]) -> String {
     let [field, parties, threshold] = [sheet[0], sheet[1], sheet[2]].map(u32::from);
-    let p = crate::field::FIELDS[field as usize].modulus;
+    let p = FIELDS[field as usize].modulus;
     let mut lines = format!("field {p} parties {parties} threshold {threshold}\n");
     let opened = record.chunks_exact(parties as usize).take(answer.openings);
     for row in opened {

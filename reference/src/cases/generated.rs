@@ -97,7 +97,7 @@ fn good_encode(generator: &mut Generator, number: u32, field: &Field) -> Case {
 fn any_encode(generator: &mut Generator, number: u32, field: &Field) -> Case {
     let k = 1 + generator.below(field.largest_k + 1);
     let wide = i64::from(generator.below(1 << (k + 1).min(31))) - (1i64 << k.min(30));
-    let any = generator.next() as i64;
+    let any = generator.any() as i64;
     Case::Encode {
         field: near(generator, number),
         k,

@@ -11,7 +11,7 @@ impl Generator {
     }
 
     /// Marsaglia's xorshift with a final multiplication; the high bits are the best ones.
-    pub fn next(&mut self) -> u64 {
+    pub fn any(&mut self) -> u64 {
         self.state ^= self.state >> 12;
         self.state ^= self.state << 25;
         self.state ^= self.state >> 27;
@@ -20,7 +20,7 @@ impl Generator {
 
     /// A number below a bound that is not 0.
     pub fn below(&mut self, bound: u32) -> u32 {
-        ((self.next() >> 32) % u64::from(bound)) as u32
+        ((self.any() >> 32) % u64::from(bound)) as u32
     }
 
     pub fn list(&mut self, length: usize, bound: u32) -> Vec<u32> {

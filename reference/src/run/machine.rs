@@ -3,7 +3,7 @@
 use super::{Answer, REGISTERS};
 use crate::refusal;
 use crate::row::{Row, MOST_PARTIES};
-use crate::script::command::{Command, Cost};
+use crate::script::command::Command;
 use crate::script::{Line, Refused};
 use crate::sheet::Sheet;
 use crate::steps::Work;
@@ -63,34 +63,19 @@ impl<'a> Machine<'a> {
             return Err(refusal::UNSET);
         }
         let cost = command.cost(self.sheet.field);
-        let shares_left = self.record.len() - self.openings * self.sheet.parties;
-        let Cost {
-            inputs,
-            masks,
-            triples,
-            revealed,
-        } = cost;
+        let n = self.sheet.parties;
+        let inputs = self.sheet.inputs.len() - self.inputs;
+        let shares = self.record.len() - self.openings * n;
+        let values = self.revealed.len() - self.reveals;
         let tests = [
-            (
-                inputs,
-                self.sheet.inputs.len() - self.inputs,
-                refusal::NO_INPUT,
-            ),
-            (masks, self.work.masks_left(), refusal::NO_MASK),
-            (triples, self.work.triples_left(), refusal::NO_TRIPLES),
-            (
-                cost.openings() * self.sheet.parties,
-                shares_left,
-                refusal::RECORD_FULL,
-            ),
-            (
-                revealed,
-                self.revealed.len() - self.reveals,
-                refusal::REVEALED_FULL,
-            ),
+            (cost.inputs, inputs, refusal::NO_INPUT),
+            (cost.masks, self.work.masks_left(), refusal::NO_MASK),
+            (cost.triples, self.work.triples_left(), refusal::NO_TRIPLES),
+            (cost.openings() * n, shares, refusal::RECORD_FULL),
+            (cost.revealed, values, refusal::REVEALED_FULL),
         ];
-        match tests.iter().find(|(needed, left, _)| needed > left) {
-            Some(&(_, _, number)) => Err(number),
+        match tests.into_iter().find(|(needed, left, _)| needed > left) {
+            Some((_, _, number)) => Err(number),
             None => Ok(()),
         }
     }

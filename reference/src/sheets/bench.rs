@@ -3,6 +3,7 @@
 use super::draft::Draft;
 use crate::cases::generator::Generator;
 use crate::dealer::Dealer;
+use crate::field::FIELDS;
 use crate::script::command::Command;
 use crate::sheet::header::{LONGEST_SCRIPT, MOST_INPUTS, MOST_MASKS, MOST_TRIPLES};
 
@@ -75,7 +76,7 @@ fn filling(bytes: usize) -> Vec<Command> {
 /// As many LTZ of k bits as the largest deal allows, each result revealed.
 pub fn signs(k: u8) -> Vec<u8> {
     let ltz = Command::Ltz { d: 0, a: 0, k };
-    let triples = ltz.cost(&crate::field::FIELDS[FIELD as usize]).triples;
+    let triples = ltz.cost(&FIELDS[FIELD as usize]).triples;
     let count = (MOST_TRIPLES / triples).min(MOST_MASKS);
     let mut commands = Vec::new();
     for register in 0..count as u8 {

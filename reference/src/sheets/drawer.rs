@@ -28,7 +28,8 @@ impl<'a> Drawer<'a> {
             set: [false; 64],
             length: 1,
         };
-        for _ in 0..drawer.generator.below(4) {
+        let loads = drawer.generator.pick(&[0, 1, 1, 2, 2, 2, 3, 3]);
+        for _ in 0..loads {
             drawer.load();
         }
         if drawer.generator.below(8) == 0 {

@@ -6,6 +6,7 @@ use crate::cases::generator::Generator;
 use crate::cases::PERMITTED;
 use crate::dealer::Dealer;
 use crate::field::{Field, FIELDS};
+use crate::row::Row;
 use crate::script::command::{script_of, Command};
 use crate::sheet::header::{MOST_INPUTS, MOST_MASKS, MOST_TRIPLES};
 
@@ -61,7 +62,7 @@ impl Good {
     }
 }
 
-fn draw_mask(dealer: &mut Dealer) -> Vec<crate::row::Row> {
+fn draw_mask(dealer: &mut Dealer) -> Vec<Row> {
     let p = dealer.field.modulus;
     let any = dealer.random_value();
     let r = dealer.generator.pick(&[0, p - 1, 5, any, any, any]);

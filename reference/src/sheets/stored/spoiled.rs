@@ -56,55 +56,59 @@ fn bit(mask: usize, bit: usize, secret: u32) -> (u32, Fault) {
     (7, Fault::MaskBit { mask, bit, secret })
 }
 
+fn mask(mask: usize, r: u32) -> (u32, Fault) {
+    (7, Fault::MaskNumber { mask, r })
+}
+
 fn triple(triple: usize, amount: u32) -> (u32, Fault) {
     (8, Fault::Triple { triple, amount })
 }
 
-/// A script after which nothing else is wrong with the sheet.
+/// Another script, which is refused with this number.
 fn script(number: u32, bytes: &[u8]) -> (u32, Fault) {
     (number, Fault::Script(bytes.to_vec()))
 }
 
 /// The number that each fault alone is refused with.
 fn alone() -> Vec<(u32, Fault)> {
-    let byte = |number, place, value| (number, Fault::Byte { place, value });
-    let mut faults = vec![
-        (1, Fault::Cut(10)),
-        byte(2, 0, 4),
-        byte(2, 0, 255),
-        byte(3, 1, 2),
-        byte(3, 1, 8),
-        byte(3, 1, 255),
-        byte(3, 2, 0),
-        byte(3, 2, 2),
-        byte(3, 2, 128),
-        byte(3, 2, 255),
-        byte(4, 0, 1),
-        byte(4, 1, 4),
-        (4, Fault::Longer(1)),
-        (4, Fault::Longer(12)),
-        (4, Fault::Cut(326)),
-    ];
-    let counts = [
-        (3, 1),
-        (3, 65),
-        (5, 17),
-        (7, 513),
-        (9, 1025),
-        (3, 0xFFFF),
-        (9, 0xFFFF),
-    ];
-    faults.extend(counts.map(|(place, count)| (4, Fault::Count { place, count })));
+    let mut faults = in_the_header();
     faults.extend([0, 5, 24].map(|row| share(row, 1, 13)));
     faults.extend([2, 3].map(|party| share(1, party, u32::MAX)));
     faults.extend([share(9, 3, 14), share(10, 2, 1 << 31), share(24, 3, 13)]);
     faults.extend([row(0, 1, 1), row(1, 2, 12), row(2, 3, 6), row(9, 1, 4)]);
     faults.extend([row(10, 2, 3), row(11, 3, 1), row(24, 3, 12)]);
     faults.extend([bit(0, 0, 2), bit(0, 3, 12), bit(1, 3, 2), bit(1, 0, 7)]);
-    faults.extend(
-        [(0, 13), (1, 13), (1, 14), (0, 15)].map(|(mask, r)| (7, Fault::MaskNumber { mask, r })),
-    );
+    faults.extend([mask(0, 13), mask(1, 13), mask(1, 14), mask(0, 15)]);
     faults.extend([triple(0, 1), triple(2, 12), triple(4, 6)]);
+    faults
+}
+
+/// Faults in the header and in the length, that of the sheet being 327 bytes.
+fn in_the_header() -> Vec<(u32, Fault)> {
+    let mut faults = vec![
+        (1, Fault::Cut(10)),
+        (4, Fault::Longer(1)),
+        (4, Fault::Longer(12)),
+        (4, Fault::Cut(326)),
+    ];
+    for (place, count) in [(3, 1), (3, 65), (5, 17), (7, 513), (9, 1025), (3, 0xFFFF)] {
+        faults.push((4, Fault::Count { place, count }));
+    }
+    for (number, place, value) in [
+        (2, 0, 4),
+        (2, 0, 255),
+        (3, 1, 2),
+        (3, 1, 8),
+        (3, 1, 255),
+        (3, 2, 0),
+        (3, 2, 2),
+        (3, 2, 128),
+        (3, 2, 255),
+        (4, 0, 1),
+        (4, 1, 4),
+    ] {
+        faults.push((number, Fault::Byte { place, value }));
+    }
     faults
 }
 
@@ -130,11 +134,7 @@ fn pairs() -> Vec<((u32, Fault), (u32, Fault))> {
         bit(0, 1, 12),
         triple(0, 1),
     ]));
-    pairs.extend(every_two(&[
-        row(0, 3, 7),
-        (7, Fault::MaskNumber { mask: 1, r: 13 }),
-        triple(1, 2),
-    ]));
+    pairs.extend(every_two(&[row(0, 3, 7), mask(1, 13), triple(1, 2)]));
     pairs
 }
 

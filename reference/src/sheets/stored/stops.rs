@@ -69,18 +69,14 @@ fn allowed() -> [Command; 8] {
 
 /// The number that each run ends with, and what is left for its command.
 fn stops() -> Vec<(u32, Stop)> {
-    let mut stops = unset();
+    let mut stops = Vec::new();
+    for command in unset().into_iter().chain(unset_of_two()) {
+        stops.push((21, nothing(command)));
+    }
     for d in [0, 4, 62, 63] {
         stops.push((22, nothing(Command::Load { d })));
     }
-    let inputs = 1;
-    stops.push((
-        0,
-        Stop {
-            inputs,
-            ..nothing(Command::Load { d: 63 })
-        },
-    ));
+    stops.push((0, nothing(Command::Load { d: 63 }).inputs(1)));
     for command in allowed() {
         stops.extend(short_of(command));
     }
@@ -102,89 +98,68 @@ fn nothing(command: Command) -> Stop {
 /// Just enough of everything.
 fn enough(command: Command) -> Stop {
     let cost = command.cost(&FIELDS[0]);
-    Stop {
-        command,
-        inputs: 0,
-        masks: cost.masks,
-        triples: cost.triples,
-        record: 3 * cost.openings(),
-        revealed: cost.revealed,
+    nothing(command)
+        .inputs(cost.inputs)
+        .masks(cost.masks)
+        .triples(cost.triples)
+        .record(3 * cost.openings())
+        .revealed(cost.revealed)
+}
+
+impl Stop {
+    fn inputs(self, inputs: usize) -> Stop {
+        Stop { inputs, ..self }
+    }
+
+    fn masks(self, masks: usize) -> Stop {
+        Stop { masks, ..self }
+    }
+
+    fn triples(self, triples: usize) -> Stop {
+        Stop { triples, ..self }
+    }
+
+    fn record(self, record: usize) -> Stop {
+        Stop { record, ..self }
+    }
+
+    fn revealed(self, revealed: usize) -> Stop {
+        Stop { revealed, ..self }
     }
 }
 
 /// Just enough, one less of each thing that the command takes, and nothing from some thing on.
 fn short_of(command: Command) -> Vec<(u32, Stop)> {
+    let nothing = || nothing(command);
+    let enough = || enough(command);
     let Stop {
         masks,
         triples,
         record,
         revealed,
         ..
-    } = enough(command);
-    let mut stops = vec![(0, enough(command))];
+    } = enough();
+    let mut stops = vec![(0, enough())];
     if masks > 0 {
-        stops.push((23, nothing(command)));
-        stops.push((
-            23,
-            Stop {
-                masks: 0,
-                ..enough(command)
-            },
-        ));
-        stops.push((
-            24,
-            Stop {
-                masks,
-                ..nothing(command)
-            },
-        ));
+        stops.push((23, nothing()));
+        stops.push((23, enough().masks(0)));
+        stops.push((24, nothing().masks(masks)));
     }
     if triples > 0 {
-        stops.push((
-            24,
-            Stop {
-                triples: triples - 1,
-                ..enough(command)
-            },
-        ));
-        stops.push((
-            25,
-            Stop {
-                masks,
-                triples,
-                ..nothing(command)
-            },
-        ));
+        stops.push((24, enough().triples(triples - 1)));
+        stops.push((25, nothing().masks(masks).triples(triples)));
     }
-    stops.push((
-        25,
-        Stop {
-            record: record - 1,
-            ..enough(command)
-        },
-    ));
+    stops.push((25, enough().record(record - 1)));
     if revealed > 0 {
-        stops.push((25, nothing(command)));
-        stops.push((
-            26,
-            Stop {
-                revealed: 0,
-                ..enough(command)
-            },
-        ));
-        stops.push((
-            26,
-            Stop {
-                record: 9,
-                ..nothing(command)
-            },
-        ));
+        stops.push((25, nothing()));
+        stops.push((26, enough().revealed(0)));
+        stops.push((26, nothing().record(9)));
     }
     stops
 }
 
-/// Commands that read a register that is unset, where nothing else is left either.
-fn unset() -> Vec<(u32, Stop)> {
+/// Commands that read a register that is unset.
+fn unset() -> Vec<Command> {
     let (d, a, k, m) = (0, 63, 3, 1);
     let mut commands = vec![
         Command::Scale { d, a, v: 1 },
@@ -195,42 +170,22 @@ fn unset() -> Vec<(u32, Stop)> {
         Command::Blocks { d, a, k, m },
         Command::Reveal { a },
         Command::Reveal { a: 5 },
-        Command::Bitlt {
-            d: 5,
-            b: 5,
-            w: 1,
-            v: 0,
-        },
-        Command::Bitlt {
-            d,
-            b: 1,
-            w: 5,
-            v: 0,
-        },
-        Command::Bitlt {
-            d,
-            b: 0,
-            w: 31,
-            v: 7,
-        },
-        Command::Bitlt {
-            d,
-            b: 33,
-            w: 31,
-            v: 7,
-        },
     ];
-    for (a, b) in [(5, 0), (0, 5), (5, 5)] {
-        commands.extend([
-            Command::Add { d: 5, a, b },
-            Command::Sub { d, a, b },
-            Command::Mul { d, a, b },
-        ]);
+    for (d, b, w) in [(5, 5, 1), (0, 1, 5), (0, 0, 31), (0, 33, 31)] {
+        commands.push(Command::Bitlt { d, b, w, v: 1 });
     }
     commands
-        .into_iter()
-        .map(|command| (21, nothing(command)))
-        .collect()
+}
+
+/// Commands that read two registers, of which one or both are unset.
+fn unset_of_two() -> Vec<Command> {
+    let mut commands = Vec::new();
+    for (a, b) in [(5, 0), (0, 5), (5, 5)] {
+        commands.push(Command::Add { d: 5, a, b });
+        commands.push(Command::Sub { d: 0, a, b });
+        commands.push(Command::Mul { d: 0, a, b });
+    }
+    commands
 }
 
 #[cfg(test)]
