@@ -1,4 +1,4 @@
-//! The command line: writes cases and their answers, and prints the run of a sheet.
+//! The command line: writes cases, their answers and example sheets, and prints the run of a sheet.
 
 use std::io::{self, Read, Write};
 use std::process::ExitCode;
@@ -9,7 +9,7 @@ const USAGE: &str = "\
 usage: reference cases > FILE | reference answers < FILE
        reference step-cases > FILE | reference step-answers > FILE
        reference run-cases > FILE | reference run-answers < FILE
-       reference table < SHEET";
+       reference table < SHEET | reference example NAME > SHEET";
 
 fn main() -> ExitCode {
     let arguments: Vec<_> = std::env::args_os().skip(1).collect();
@@ -22,6 +22,7 @@ fn main() -> ExitCode {
         ["run-cases"] => write_out(&all_bytes(&sheets::stored::all(), |case| case.to_bytes())),
         ["run-answers"] => run_answers(),
         ["table"] => read_in().and_then(|sheet| write_out(table::lines(&sheet).as_bytes())),
+        ["example", name] => example(name),
         _ => {
             eprintln!("{USAGE}");
             return ExitCode::from(2);
@@ -62,6 +63,12 @@ fn run_answers() -> Result<(), String> {
     let cases = run_case::read_all(&read_in()?)?;
     let lines: String = cases.iter().map(run_case::lines).collect();
     write_out(lines.as_bytes())
+}
+
+fn example(name: &str) -> Result<(), String> {
+    let names = sheets::examples::NAMES.join(", ");
+    let sheet = sheets::examples::named(name).ok_or(format!("the examples are {names}"))?;
+    write_out(&sheet)
 }
 
 fn read_in() -> Result<Vec<u8>, String> {

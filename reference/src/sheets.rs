@@ -3,6 +3,7 @@
 pub mod bench;
 mod draft;
 mod drawer;
+pub mod examples;
 mod fault;
 mod good;
 pub mod stored;

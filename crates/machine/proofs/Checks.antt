@@ -1,12 +1,11 @@
 -- The checks 22 to 26, of a cost as the code has it, where the registers read are set; and what a cost that passes leaves.
 -- Assumes nothing.
-use mathlib.Core.Path.{_≡_, refl, sym, ap, _∙_}
-use mathlib.Core.Bool.{Bool, true, false}
-use mathlib.Core.List.{List}
+use mathlib.Core.Path.{_≡_, sym, ap}
+use mathlib.Core.Bool.{true, false}
 use Prim.Native.Nat.{ℕ, _+_, _*_, _≤_, _<_}
 use native.Mathlib.Omega.{arith}
-use borrow.Author.Tests.{le-leb, lt-leb}
 use lib.Dec.{leb}
+use borrow.Author.Tests.{le-leb, lt-leb}
 use Rattle.model.specs.Costs.{Cost}
 use Rattle.model.specs.Run.{allSet, check}
 use Rattle.sheet.specs.declared.frame.Frame.{Frame}

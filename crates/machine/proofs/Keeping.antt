@@ -4,12 +4,11 @@ use mathlib.Core.Path.{_≡_, refl, sym, ap, _∙_}
 use mathlib.Core.List.{List, [], _∷_, _++_, append-nil, append-assoc}
 use Prim.Native.Nat.{ℕ, suc, _+_, _-_, _*_, _≤_, _<_}
 use native.Mathlib.Omega.{arith}
-use borrow.Rule.Slice.PartMut.{putMid, midOf}
 use lib.ListN.{length, getD, set, take, drop, length-append, length-set}
 use lib.Seq.{drop-cons, drop-drop, set-append-seam}
+use borrow.Rule.Slice.PartMut.{putMid, midOf}
 use Rattle.algebra.specs.Lists.{over, none, one}
 use Rattle.algebra.proofs.Lists.{over-then, length-over}
-use Rattle.model.specs.Bytes.{sevens}
 use Rattle.model.specs.Steps.{Row, Step}
 use Rattle.model.specs.Costs.{Cost, free, cost}
 use Rattle.model.specs.Script.{Command}

@@ -1,16 +1,15 @@
 -- The places of the next input row, mask and triple lie in the sheet, and what stands there is what the state has next.
 -- Assumes nothing.
-use mathlib.Core.Path.{_≡_, refl, sym, ap, _∙_}
-use mathlib.Core.List.{List, [], _∷_}
-use Prim.Native.Nat.{ℕ, zero, suc, _+_, _-_, _*_, _^_, _≤_, _<_}
+use mathlib.Core.Path.{_≡_, ap, _∙_}
+use mathlib.Core.List.{List, []}
+use Prim.Native.Nat.{ℕ, zero, suc, _+_, _*_, _≤_, _<_}
 use native.Mathlib.Nat.{mul-le-mul-right}
 use native.Mathlib.Omega.{arith}
 use lib.ListN.{length, getD, drop}
 use Rattle.algebra.specs.Lists.{first}
 use Rattle.model.specs.Bytes.{rowAt}
 use Rattle.model.specs.Fields as Fields
-use Rattle.model.specs.Sheet.{rowsAt, masksFrom, triplesFrom}
-use Rattle.model.specs.Steps.{Row}
+use Rattle.model.specs.Sheet.{rowsAt, masksFrom}
 use Rattle.model.specs.Run.{noRow}
 use Rattle.model.proofs.Fields.{fields}
 use Rattle.sheet.specs.declared.frame.Frame.{Frame}

@@ -9,9 +9,9 @@ use Rattle.model.specs.Script.{inRanges}
 use Rattle.sheet.specs.declared.frame.Frame.{Frame}
 use Rattle.script.specs.declared.command.Command.{Command}
 use Rattle.script.specs.Meaning.{meant}
+use Rattle.script.proofs.InRange.{Ranges, ranges}
 use Rattle.machine.specs.declared.table.Table.{Table}
 use Rattle.machine.specs.Holding.{Ready}
-use Rattle.script.proofs.InRange.{Ranges, ranges}
 
 pub ranged : (f : Frame) {c c′ : Command} → T (inRanges (f .p) (f .largest) (meant c)) → c ≡ c′ → Ranges (f .p) (f .largest) (meant c′)
 ranged f {c′ = c′} t e = ranges (f .p) (f .largest) (meant c′) (subst (λ (x : Command). T (inRanges (f .p) (f .largest) (meant x))) e t)

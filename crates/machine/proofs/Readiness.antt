@@ -1,20 +1,16 @@
 -- What a command that is ready finds in the sheet and in the record: one lemma for each kind of command.
 -- Assumes nothing.
 use mathlib.Core.Path.{_≡_, refl, sym, ap, subst, _∙_}
-use mathlib.Core.Bool.{Bool, _&&_}
-use mathlib.Core.List.{List, [], _∷_, _++_}
+use mathlib.Core.List.{List, [], _∷_}
 use Prim.Native.Nat.{ℕ, zero, suc, _+_, _-_, _*_, _^_, _≤_, _<_}
 use native.Mathlib.Nat.{mul-le-mul-right}
 use native.Mathlib.Omega.{arith}
-use borrow.Rule.Slice.PartMut.{putMid, midOf}
-use lib.Dec.{T, ltb, leb, ltb→lt, leb→le}
-use lib.ListN.{length, set, take, drop, length-drop}
+use lib.ListN.{length, set, take, drop, length-take, length-drop}
 use lib.Seq.{take-all}
 use lib.Pow.{pow-mono}
+use borrow.Rule.Slice.PartMut.{putMid, midOf}
 use Rattle.algebra.specs.Lists.{over, first}
-use Rattle.algebra.proofs.Tests.{and-left, and-right}
-use Rattle.model.specs.Fields as Fields
-use Rattle.model.specs.Script.{Command, MUL, MOD, TRUNC, LTZ, OVER, BLOCKS, REVEAL, BITLT, inRanges, register, kIn, mIn}
+use Rattle.model.specs.Script.{Command, MUL, REVEAL, BITLT, register}
 use Rattle.model.specs.Costs.{cost}
 use Rattle.model.specs.Sheet.{rowsAt, triplesFrom}
 use Rattle.model.specs.Bytes.{sevens}
@@ -27,12 +23,13 @@ use Rattle.steps.proofs.Following.{triples-drop}
 use Rattle.steps.proofs.Putting.{length-rows}
 use Rattle.sheet.specs.declared.frame.Frame.{Frame}
 use Rattle.sheet.specs.Framed.{Framed, settingIn}
+use Rattle.script.proofs.InRange.{WithK, WithM, ranges}
 use Rattle.machine.specs.declared.table.Table.{Table}
-use Rattle.machine.specs.Tables.{registerIn, countsOf, paid}
-use Rattle.machine.specs.Holding.{Holds, Ready, inputsOf, maskPlace, triplePlace, logPlace}
-use Rattle.machine.proofs.Keeping.{Left, opened-left, register-is, holds-reveal}
+use Rattle.machine.specs.Tables.{registerIn, putTable, countsOf, paid}
+use Rattle.machine.specs.Holding.{Holds, Ready, Performs, inputsOf, maskPlace, triplePlace, logPlace}
+use Rattle.machine.proofs.Keeping.{Left, putCost, putState, opened-left, register-is, holds-reveal, performs-put}
 use Rattle.machine.proofs.Registers.{from-sevens}
-use Rattle.machine.proofs.Places.{n-most, t-most, l-most, field-of, mask-fits, triples-fit, mask-at}
+use Rattle.machine.proofs.Places.{n-most, l-most, field-of, mask-fits, triples-fit, mask-at}
 
 -- the places lie within the sheet and the record
 pub record Within (s : List ℕ) (f : Frame) (log : ℕ) (t : Table) : Type 0 where
@@ -50,10 +47,6 @@ within {s} {f} {log} {c} {t} R =
       log-place = omega (arith, R .room);
     }
 
--- registers
-pub below : (r : ℕ) → T (register r) → r < 64
-below r t = ltb→lt r 64 t
-
 -- MOD, TRUNC and BLOCKS; LTZ and OVER with m = k − 1
 pub record Masked (s : List ℕ) (f : Frame) (log : ℕ) (t : Table) (d a k m : ℕ) : Type 0 where
   pub d-in : d < 64
@@ -70,20 +63,19 @@ pub record Masked (s : List ℕ) (f : Frame) (log : ℕ) (t : Table) (d a k m : 
   pub log-room : logPlace f t + (f .n + (f .l + 2 * m - 2) * (f .n + f .n)) ≤ log
   pub room : (t .spent .openings + (1 + 2 * (f .l + 2 * m - 2))) * f .n ≤ log
 
-module _ {s : List ℕ} {f : Frame} {log : ℕ} {t : Table} (F : Framed s f) (d a k m : ℕ) where
-  masked : T (register d) → T (register a) → T (kIn (f .largest) k) → 1 ≤ m → m < k → t .spent .masks + 1 ≤ f .masks
-      → t .spent .triples + (f .l + 2 * m - 2) ≤ f .triples → (t .spent .openings + (1 + 2 * (f .l + 2 * m - 2))) * f .n ≤ log → Masked s f log t d a k m
-  masked rd ra rk least most hm ht room =
+module _ {s : List ℕ} {f : Frame} {log : ℕ} {t : Table} (F : Framed s f) where
+  masked : (d a k m : ℕ) → WithK (f .largest) d a k → 1 ≤ m → m < k → t .spent .masks + 1 ≤ f .masks → t .spent .triples + (f .l + 2 * m - 2) ≤ f .triples
+      → (t .spent .openings + (1 + 2 * (f .l + 2 * m - 2))) * f .n ≤ log → Masked s f log t d a k m
+  masked d a k m W least most hm ht room =
       let K = field-of F in
-      let kk : k ≤ f .largest = leb→le k (f .largest) (and-right (leb 2 k) (leb k (f .largest)) rk) in
       record {
-        d-in = below d rd;
-        a-in = below a ra;
+        d-in = W .d-in;
+        a-in = W .a-in;
         m-least = least;
         m-most = most;
-        k-most = omega (arith, K .k-most);
-        power = let q : 2 ^ k ≤ 2 ^ f .largest = pow-mono {i = k} {j = f .largest} kk in omega (arith, K .range-fits);
-        m-within = omega (arith, wider K);
+        k-most = omega (arith, W .k-most, K .k-most);
+        power = let q : 2 ^ k ≤ 2 ^ f .largest = pow-mono {i = k} {j = f .largest} (W .k-most) in omega (arith, K .range-fits);
+        m-within = omega (arith, W .k-most, wider K);
         masks = hm;
         triples = ht;
         mask-room = mask-fits F (t .spent .masks) hm;
@@ -92,24 +84,14 @@ module _ {s : List ℕ} {f : Frame} {log : ℕ} {t : Table} (F : Framed s f) (d 
         room = room;
       }
 
-  pub blocks-ready : T (register d && register a && kIn (f .largest) k && mIn k m) → t .spent .masks + 1 ≤ f .masks
-      → t .spent .triples + (f .l + 2 * m - 2) ≤ f .triples → (t .spent .openings + (1 + 2 * (f .l + 2 * m - 2))) * f .n ≤ log → Masked s f log t d a k m
-  blocks-ready ok =
-      let three = and-left (register d && register a && kIn (f .largest) k) (mIn k m) ok in
-      let two = and-left (register d && register a) (kIn (f .largest) k) three in
-      let b = and-right (register d && register a && kIn (f .largest) k) (mIn k m) ok in
-      masked (and-left (register d) (register a) two) (and-right (register d) (register a) two) (and-right (register d && register a) (kIn (f .largest) k) three)
-      (leb→le 1 m (and-left (leb 1 m) (ltb m k) b)) (ltb→lt m k (and-right (leb 1 m) (ltb m k) b))
+  pub blocks-ready : {d a k m : ℕ} → WithM (f .largest) d a k m → t .spent .masks + 1 ≤ f .masks → t .spent .triples + (f .l + 2 * m - 2) ≤ f .triples
+      → (t .spent .openings + (1 + 2 * (f .l + 2 * m - 2))) * f .n ≤ log → Masked s f log t d a k m
+  blocks-ready {d} {a} {k} {m} W =
+      masked d a k m (record { d-in = W .d-in; a-in = W .a-in; k-least = W .k-least; k-most = W .k-most }) (W .m-least) (W .m-most)
 
-module _ {s : List ℕ} {f : Frame} {log : ℕ} {t : Table} (F : Framed s f) (d a k : ℕ) where
-  pub sign-ready : T (register d && register a && kIn (f .largest) k) → t .spent .masks + 1 ≤ f .masks
-      → t .spent .triples + (f .l + 2 * (k - 1) - 2) ≤ f .triples → (t .spent .openings + (1 + 2 * (f .l + 2 * (k - 1) - 2))) * f .n ≤ log
-      → Masked s f log t d a k (k - 1)
-  sign-ready ok =
-      let two = and-left (register d && register a) (kIn (f .largest) k) ok in
-      let rk = and-right (register d && register a) (kIn (f .largest) k) ok in
-      let least : 2 ≤ k = leb→le 2 k (and-left (leb 2 k) (leb k (f .largest)) rk) in
-      masked F d a k (k - 1) (and-left (register d) (register a) two) (and-right (register d) (register a) two) rk (omega arith) (omega arith)
+  pub sign-ready : {d a k : ℕ} → WithK (f .largest) d a k → t .spent .masks + 1 ≤ f .masks → t .spent .triples + (f .l + 2 * (k - 1) - 2) ≤ f .triples
+      → (t .spent .openings + (1 + 2 * (f .l + 2 * (k - 1) - 2))) * f .n ≤ log → Masked s f log t d a k (k - 1)
+  sign-ready {d} {a} {k} W = masked d a k (k - 1) W (omega (arith, W .k-least)) (omega (arith, W .k-least))
 
 -- what stands at the places
 module _ {s : List ℕ} {f : Frame} {log₀ shown₀ : List ℕ} {t : Table} {log shown : List ℕ} {x : Run.State} where
@@ -157,15 +139,10 @@ pub record MulReady (s : List ℕ) (f : Frame) (log : ℕ) (t : Table) (d a b : 
   pub spends : Spending s f log t 1
 
 pub mul-ready : {s : List ℕ} {f : Frame} {log : ℕ} {t : Table} {d a b : ℕ} → Ready s f log (MUL d a b) t → MulReady s f log t d a b
-unfolding cost inRanges
-mul-ready {d = d} {a} {b} R =
-    let two = and-left (register d && register a) (register b) (R .ranged) in
-    record {
-      d-in = below d (and-left (register d) (register a) two);
-      a-in = below a (and-right (register d) (register a) two);
-      b-in = below b (and-right (register d && register a) (register b) (R .ranged));
-      spends = spending 1 (R .framed) (R .triples) (R .room);
-    }
+unfolding cost
+mul-ready {f = f} {d = d} {a} {b} R =
+    let W = ranges (f .p) (f .largest) (MUL d a b) (R .ranged) in
+    record { d-in = W .d-in; a-in = W .a-in; b-in = W .b-in; spends = spending 1 (R .framed) (R .triples) (R .room) }
 
 pub record CompareReady (s : List ℕ) (f : Frame) (log : ℕ) (t : Table) (d b w : ℕ) : Type 0 where
   pub d-in : d < 64
@@ -175,18 +152,10 @@ pub record CompareReady (s : List ℕ) (f : Frame) (log : ℕ) (t : Table) (d b 
   pub spends : Spending s f log t (w - 1)
 
 pub compare-ready : {s : List ℕ} {f : Frame} {log : ℕ} {t : Table} {d b w v : ℕ} → Ready s f log (BITLT d b w v) t → CompareReady s f log t d b w
-unfolding cost inRanges
-compare-ready {d = d} {b} {w} {v} R =
-    let five = and-left (register d && register b && leb 1 w && leb w 31 && leb (b + w) 64) (ltb v (2 ^ w)) (R .ranged) in
-    let four = and-left (register d && register b && leb 1 w && leb w 31) (leb (b + w) 64) five in
-    let three = and-left (register d && register b && leb 1 w) (leb w 31) four in
-    record {
-      d-in = below d (and-left (register d) (register b) (and-left (register d && register b) (leb 1 w) three));
-      w-least = leb→le 1 w (and-right (register d && register b) (leb 1 w) three);
-      w-most = leb→le w 31 (and-right (register d && register b && leb 1 w) (leb w 31) four);
-      last-in = leb→le (b + w) 64 (and-right (register d && register b && leb 1 w && leb w 31) (leb (b + w) 64) five);
-      spends = spending (w - 1) (R .framed) (R .triples) (R .room);
-    }
+unfolding cost
+compare-ready {f = f} {d = d} {b} {w} {v} R =
+    let W = ranges (f .p) (f .largest) (BITLT d b w v) (R .ranged) in
+    record { d-in = W .d-in; w-least = W .w-least; w-most = W .w-most; last-in = W .bits-in; spends = spending (w - 1) (R .framed) (R .triples) (R .room) }
 
 pub record RevealReady (f : Frame) (log : ℕ) (t : Table) (a : ℕ) : Type 0 where
   pub a-in : a < 64
@@ -194,8 +163,8 @@ pub record RevealReady (f : Frame) (log : ℕ) (t : Table) (a : ℕ) : Type 0 wh
   pub room : (t .spent .openings + 1) * f .n ≤ log
 
 pub reveal-ready : {s : List ℕ} {f : Frame} {log : ℕ} {t : Table} {a : ℕ} → Ready s f log (REVEAL a) t → RevealReady f log t a
-unfolding cost inRanges
-reveal-ready {a = a} R = record { a-in = below a (R .ranged); log-room = omega (arith, R .room); room = R .room }
+unfolding cost
+reveal-ready {f = f} {a = a} R = record { a-in = ranges (f .p) (f .largest) (REVEAL a) (R .ranged); log-room = omega (arith, R .room); room = R .room }
 
 -- BITLT's bits are the registers' rows
 module _ {s : List ℕ} {f : Frame} {log₀ shown₀ : List ℕ} {t : Table} {log shown : List ℕ} {x : Run.State} where
@@ -227,3 +196,40 @@ revealed-holds {f = f} {x = x} {a} {v} {at} {row} {last} H hn seven ha er ev ea 
     let e : row ≡ Run.register x a = er ∙ register-is H a ha in
     let ev′ : v ≡ secret (f .p) (f .t) (Run.register x a) = ev ∙ ap (secret (f .p) (f .t)) e in
     rw ev′ (holds-reveal a (Run.register x a) (secret (f .p) (f .t) (Run.register x a)) at last H hn (rw (sym e) seven) ea (rw (sym e) el) room space)
+
+-- the next places fit
+pub next-fits : {s : List ℕ} {f : Frame} {log : ℕ} {c : Command} {t : Table} → Ready s f log c t → length s < 2 ^ 64 → log < 2 ^ 64
+    → (f .l ≤ 31) × (f .n ≤ 7) × (maskPlace f t < 2 ^ 64) × (triplePlace f t < 2 ^ 64) × (logPlace f t < 2 ^ 64)
+next-fits R hs hl =
+    let W = within R in
+    (l-most (R .framed), n-most (R .framed), omega (arith, W .mask), omega (arith, W .triple), omega (arith, W .log-place))
+
+-- what a masked step asks of its places
+module _ {s : List ℕ} {f : Frame} {log : ℕ} {t : Table} {d a k m mask i at : ℕ} (M : Masked s f log t d a k m)
+    (N : (mask ≡ maskPlace f t) × (i ≡ triplePlace f t) × (at ≡ logPlace f t)) where
+  pub mask-room : mask + f .l * (4 * f .n) ≤ length s
+  mask-room = omega (arith, M .mask-room, N .0)
+
+  pub triple-room : i + (f .l + 2 * m - 2) * (12 * f .n) ≤ length s
+  triple-room = omega (arith, M .triple-room, N .1)
+
+  pub part-room : (part : List ℕ) → length part ≡ log → f .n + (f .l + 2 * m - 2) * (f .n + f .n) ≤ length (midOf at (length part - at) part)
+  part-room part e = simp (length-take, length-drop) (omega (arith, M .log-room, N .2))
+
+-- A masked command, whose step is given with what it takes and opens and with what the code's call ensures of it.
+pub masked-performs : {s : List ℕ} {f : Frame} {t r : Table} {log shown last : List ℕ} {d a k m mask i at : ℕ} {y z : Row} (c : Command) (step : Row → Deal → Step)
+    → Framed s f → Masked s f (length log) t d a k m → cost (f .l) c ≡ putCost d 0 1 (f .l + 2 * m - 2) (1 + 2 * (f .l + 2 * m - 2)) (a ∷ [])
+    → ((x : Run.State) → Run.finish (settingIn f) (inputsOf s f) c x ≡ putState (cost (f .l) c) d x (step (Run.register x a) (x .deal)))
+    → ((w : Row) (e : Deal) → length (first [] (e .masks)) ≡ f .l → Took e 1 (f .l + 2 * m - 2) (1 + 2 * (f .l + 2 * m - 2)) (step w e))
+    → (mask ≡ maskPlace f t) × (i ≡ triplePlace f t) × (at ≡ logPlace f t) → y ≡ registerIn t a
+    → ((count : ℕ) (e : Deal) → first [] (e .masks) ≡ rowsAt s (f .n) mask (f .l) → e .triples ≡ triplesFrom s (f .n) i count → f .l + 2 * m ≤ count + 2
+    → (z ≡ step y e .left) × (last ≡ over (Run.written (f .n) (step y e .opened)) (midOf at (length log - at) log)))
+    → length z ≡ 7 → r ≡ putTable t d z → Performs s f c t log shown r (putMid at (length log - at) log last) shown
+masked-performs {f = f} {t} {d = d} {a} {m = m} {z = z} c step F M ec ef took N ey ens seven er =
+    performs-put c d 0 1 (f .l + 2 * m - 2) (1 + 2 * (f .l + 2 * m - 2)) (a ∷ []) z (λ x. step (Run.register x a) (x .deal)) ec ef (M .d-in) (n-most F) seven er
+    (λ log₀ shown₀ x H.
+    step-left H
+    (ens (f .triples - t .spent .triples) (x .deal) (next-mask H (M .masks) (N .0)) (next-triples H (omega (arith, M .triples)) (N .1))
+    (omega (arith, M .triples, M .m-least)))
+    (took (Run.register x a) (x .deal) (mask-length H (M .masks))) (N .2) (M .room)
+    (ap (λ (w : Row). step w (x .deal)) (ey ∙ register-is H a (M .a-in))))

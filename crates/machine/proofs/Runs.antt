@@ -14,6 +14,8 @@ use Rattle.model.specs.Bytes.{sevens}
 use Rattle.model.specs.Costs.{cost}
 use Rattle.model.specs.Script.{Script, Line, accepted, refused, withLine, commandAt, sizeAt, numberAt, scriptStep, scriptFrom, scriptOf, inRanges}
 use Rattle.model.specs.Run.{State, Stop, check, finish, orElse, runLines, start, nothingSpent, written}
+use Rattle.sheet.specs.declared.frame.Frame.{Frame}
+use Rattle.sheet.specs.Framed.{settingIn}
 use Rattle.script.specs.declared.command.Command.{Command}
 use Rattle.script.specs.declared.command.Decoded.{Decoded}
 use Rattle.script.specs.declared.command.Decoded.the-variants.{Command as Found, Refused}
@@ -23,12 +25,9 @@ use Rattle.script.specs.Reading.{readingOf, readingAt}
 use Rattle.script.proofs.Sizes.{size-some}
 use Rattle.script.proofs.Decoding.{FoundAt, found-at, found-in-range, refused-at, passed}
 use Rattle.script.proofs.Scripts.{accepted-at, script-ends-well, script-goes-on, enough}
-use Rattle.sheet.specs.declared.frame.Frame.{Frame}
-use Rattle.sheet.specs.Framed.{Framed, settingIn}
 use Rattle.machine.specs.declared.table.Table.{Table}
-use Rattle.machine.specs.declared.run.Answer.{Answer}
 use Rattle.machine.specs.Tables.{emptyTable}
-use Rattle.machine.specs.Holding.{Holds, Afforded, Tries, spentOf, inputsOf, dealOf, supplyIn}
+use Rattle.machine.specs.Holding.{Holds, Afforded, Tries, inputsOf, dealOf, supplyIn}
 use Rattle.machine.specs.Answers.{Stopped, stopFrom}
 use Rattle.machine.proofs.Keeping.{log-length, shown-length}
 

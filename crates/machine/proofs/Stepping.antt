@@ -1,23 +1,22 @@
 -- What the checks give a command: it is ready, its cost fits, and what was spent is still there afterwards.
 -- Assumes nothing.
-use mathlib.Core.Path.{_≡_, refl, sym, ap, _∙_}
+use mathlib.Core.Path.{_≡_}
 use mathlib.Core.List.{List}
 use Prim.Native.Nat.{ℕ, _+_, _-_, _*_, _^_, _≤_, _<_}
 use native.Mathlib.Nat.{mul-le-mul}
 use native.Mathlib.Omega.{arith}
 use lib.Dec.{T}
-use lib.ListN.{length}
 use Rattle.model.specs.Script.{Command, END, LOAD, CONST, ADD, SUB, SCALE, MUL, MOD, TRUNC, LTZ, OVER, BLOCKS, REVEAL, BITLT, inRanges}
-use Rattle.model.specs.Costs.{Cost, cost}
-use Rattle.model.specs.Run.{State, check, finish}
+use Rattle.model.specs.Costs.{cost}
+use Rattle.model.specs.Run.{check}
 use Rattle.model.proofs.Held.{check-passed}
-use Rattle.script.proofs.InRange.{ranges}
 use Rattle.sheet.specs.declared.frame.Frame.{Frame}
-use Rattle.sheet.specs.Framed.{Framed, settingIn}
+use Rattle.sheet.specs.Framed.{Framed}
+use Rattle.script.proofs.InRange.{ranges}
 use Rattle.machine.specs.declared.table.Counts.{Counts}
 use Rattle.machine.specs.declared.table.Table.{Table}
 use Rattle.machine.specs.Tables.{countsOf, paid}
-use Rattle.machine.specs.Holding.{Holds, Ready, Afforded, Performs, inputsOf, spentOf, supplyIn}
+use Rattle.machine.specs.Holding.{Ready, Afforded, spentOf, supplyIn}
 
 -- no command opens more
 module _ (p K l : ℕ) (hl : l ≤ 31) (hK : K ≤ 30) where

@@ -1,21 +1,19 @@
 -- The run of a sheet: refused because of the sheet, refused because of the script, or run to its stop.
 -- Assumes nothing.
-use mathlib.Core.Path.{_≡_, refl, sym, ap, subst, _∙_}
+use mathlib.Core.Path.{_≡_, refl, sym, ap, _∙_}
 use mathlib.Core.Logic.{_≢_}
-use mathlib.Core.List.{List, []}
-use Prim.Native.Nat.{ℕ, zero, suc, _+_, _-_, _*_, _≤_, _<_}
+use mathlib.Core.List.{List}
+use Prim.Native.Nat.{ℕ, zero, suc, _+_, _-_, _<_}
 use native.Mathlib.Omega.{arith}
 use lib.ListN.{length, take, drop}
 use Rattle.algebra.specs.Lists.{over}
 use Rattle.model.specs.Bytes.{sevens}
-use Rattle.model.specs.Fields.{largestK}
 use Rattle.model.specs.Script.{Script, accepted, refused, scriptOf}
 use Rattle.model.specs.Sheet.{headerOf, settingOf, inputIn, dealIn, scriptIn, sheetNumber}
-use Rattle.model.specs.Steps.{Setting, Row, Deal}
-use Rattle.model.specs.Run.{Spent, State, Stop, Supply, Outcome, orElse, start, nothingSpent, written, outcome, refusedInput, supplyOf, runScript, sheetScript, stopOf, run, runLines}
-use Rattle.script.specs.Meaning.{scriptNumber, scriptPlace}
+use Rattle.model.specs.Run.{Stop, start, nothingSpent, written, outcome, refusedInput, supplyOf, runScript, sheetScript, stopOf, run}
 use Rattle.sheet.specs.declared.frame.Frame.{Frame}
 use Rattle.sheet.specs.Framed.{Framed, settingIn}
+use Rattle.script.specs.Meaning.{scriptNumber, scriptPlace}
 use Rattle.machine.specs.declared.run.Answer.{Answer}
 use Rattle.machine.specs.Tables.{emptyTable}
 use Rattle.machine.specs.Holding.{inputsOf, dealOf, supplyIn}

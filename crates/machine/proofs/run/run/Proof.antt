@@ -1,40 +1,28 @@
-use mathlib.Core.Path.{_≡_, refl, sym, ap, _∙_}
-use Prim.Native.Nat.{ℕ, _<_}
+-- `run::run` meets its contract: refused because of the sheet or of the script, or run.
+-- Assumes nothing.
+use mathlib.Core.Path.{sym, ap, _∙_}
 use native.Mathlib.Omega.{arith}
+use borrow.Author.Needs.{needs}
 use Rattle.sheet.specs.Reading.{numberOf}
 use Rattle.machine.proofs.Whole.{not-zero, sheet-refused, script-refused, script-run}
-use borrow.Author.Needs.{needs}
 use Rattle.machine.proofs.run.run.Statement.{statement}
 use Rattle.machine.proofs.run.run.Tie as tie
-use Rattle.machine.proofs.run.run.Reads as reads
-use Rattle.machine.proofs.run.run.Lts as lts
-use Rattle.machine.proofs.run.refusal.Reads as refusal-reads
-use Rattle.machine.proofs.run.refused.Reads as refused-reads
-use Rattle.machine.proofs.run.run_script.Reads as run-script-reads
-use Rattle.script.proofs.check.check_script.Reads as check-script-reads
-use Rattle.sheet.proofs.read_sheet.Reads as read-sheet-reads
 
--- src/run.rt:88:9
 read-sheet-requires : tie.Need-read-sheet-requires
 read-sheet-requires c κs = search needs
 
--- src/run.rt:89:21
 enum-known-read : tie.Need-enum-known-read
 enum-known-read c = search needs
 
--- src/run.rt:90:24
 enum-told : tie.Need-enum-told
 enum-told c = search needs
 
--- src/run.rt:90:24
 refusal-requires : tie.Need-refusal-requires
 refusal-requires c κs = search needs
 
--- src/run.rt:90:9
 refused-requires : tie.Need-refused-requires
 refused-requires c κs = search needs
 
--- src/run.rt:90:9
 returns : tie.Need-returns
 returns c =
     let r = c .before .before .before .before .read-sheet .ensures in
@@ -43,7 +31,6 @@ returns c =
     rw (c .refused .ensures)
     (sheet-refused _ _ _ _ (number ∙ r .0) (λ z. not-zero (r .2 _ told) (sym (ap numberOf told) ∙ sym number ∙ z)))
 
--- src/run.rt:93:54
 sub-check-script : tie.Need-sub-check-script
 sub-check-script c =
     let r = c .before .before .before .read-sheet .ensures in
@@ -51,7 +38,6 @@ sub-check-script c =
     let F = r .1 _ is in
     omega (arith, F .inputs-place)
 
--- src/run.rt:93:54
 part-check-script-start : tie.Need-part-check-script-start
 part-check-script-start c =
     let r = c .before .before .before .read-sheet .ensures in
@@ -59,7 +45,6 @@ part-check-script-start c =
     let F = r .1 _ is in
     omega (arith, F .inputs-place)
 
--- src/run.rt:93:54
 part-check-script-end : tie.Need-part-check-script-end
 part-check-script-end c =
     let r = c .before .before .before .read-sheet .ensures in
@@ -67,15 +52,12 @@ part-check-script-end c =
     let F = r .1 _ is in
     omega (arith, F .masks-place, F .triples-place, F .whole)
 
--- src/run.rt:93:9
 check-script-requires : tie.Need-check-script-requires
 check-script-requires c κs = search needs
 
--- src/run.rt:95:9
 refused-requires-2 : tie.Need-refused-requires-2
 refused-requires-2 c κs = search needs
 
--- src/run.rt:95:9
 returns-2 : tie.Need-returns-2
 returns-2 c =
     let r = c .before .before .before .before .before .before .before .before .read-sheet .ensures in
@@ -83,7 +65,6 @@ returns-2 c =
     let F = r .1 _ is in
     rw (c .refused2 .ensures) (script-refused _ _ _ F (sym (ap numberOf is) ∙ r .0) (c .before .before .before .check-script .ensures) (c .before .if1 .taken))
 
--- src/run.rt:97:26
 sub-run-script : tie.Need-sub-run-script
 sub-run-script c =
     let r = c .before .before .before .before .before .before .before .read-sheet .ensures in
@@ -91,7 +72,6 @@ sub-run-script c =
     let F = r .1 _ is in
     omega (arith, F .inputs-place)
 
--- src/run.rt:97:26
 part-run-script-start : tie.Need-part-run-script-start
 part-run-script-start c =
     let r = c .before .before .before .before .before .before .before .read-sheet .ensures in
@@ -99,7 +79,6 @@ part-run-script-start c =
     let F = r .1 _ is in
     omega (arith, F .inputs-place)
 
--- src/run.rt:97:26
 part-run-script-end : tie.Need-part-run-script-end
 part-run-script-end c =
     let r = c .before .before .before .before .before .before .before .read-sheet .ensures in
@@ -107,7 +86,6 @@ part-run-script-end c =
     let F = r .1 _ is in
     omega (arith, F .masks-place, F .triples-place, F .whole)
 
--- src/run.rt:97:5
 run-script-requires : tie.Need-run-script-requires
 run-script-requires c κs =
     let r = c .before .before .before .before .before .before .before .before .before .before .read-sheet .ensures in
@@ -115,15 +93,12 @@ run-script-requires c κs =
     let F = r .1 _ is in
     (F, sym (c .before .before .before .before .before .check-script .ensures .0) ∙ c .before .before .before .if1 .left)
 
--- src/run.rt:85:1
 same-length : tie.Need-same-length
 same-length c = search needs
 
--- src/run.rt:85:1
 same-length-2 : tie.Need-same-length-2
 same-length-2 c = search needs
 
--- src/run.rt:85:1
 returns-3 : tie.Need-returns-3
 returns-3 c =
     let r = c .before .before .before .before .before .before .before .before .before .before .before .before .before .before .before .read-sheet .ensures in

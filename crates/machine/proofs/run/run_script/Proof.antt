@@ -1,19 +1,13 @@
-use Rattle.machine.proofs.Keeping.{log-length, shown-length}
-use mathlib.Core.Path.{_≡_, refl, sym, ap, _∙_}
+-- `run::run_script` meets its contract: the run from here on is the run of the whole script.
+-- Assumes nothing.
+use mathlib.Core.Path.{_≡_, refl}
 use Prim.Native.Nat.{_-_}
-use native.Mathlib.Omega.{arith}
 use lib.ListN.{length}
 use borrow.Author.Needs.{needs}
+use Rattle.machine.proofs.Keeping.{log-length, shown-length}
 use Rattle.machine.proofs.Runs.{Going, going-start, never-refused, in-range, closer, at-end, at-refusal, goes-on}
 use Rattle.machine.proofs.run.run_script.Statement.{statement}
 use Rattle.machine.proofs.run.run_script.Tie as tie
-use Rattle.machine.proofs.run.run_script.Reads as reads
-use Rattle.machine.proofs.run.run_script.Lts as lts
-use Rattle.machine.proofs.table.Table.new.Reads as new-reads
-use Rattle.machine.proofs.table.Table.step.Reads as step-reads
-use Rattle.script.proofs.decode.decode.Reads as decode-reads
-use Rattle.script.proofs.decode.is_end.Reads as is-end-reads
-use Rattle.script.proofs.decode.refusal.Reads as refusal-reads
 
 abbrev Inv-loop : tie.InvT-loop
 Inv-loop f s script log₀ revealed₀ table₀ at₀ log revealed table at = (length log ≡ length log₀) × (length revealed ≡ length revealed₀) × Going s script f log₀ revealed₀ table log revealed at
@@ -21,85 +15,66 @@ Inv-loop f s script log₀ revealed₀ table₀ at₀ log revealed table at = (l
 abbrev μ-loop : tie.MeasureT-loop
 μ-loop f s script log₀ revealed₀ table₀ at₀ log revealed table at = length script - at
 
--- src/run.rt:27:9
 new-requires : tie.Need-new-requires Inv-loop μ-loop
 new-requires c κs = search needs
 
--- src/run.rt:29:5
 loop-holds : tie.Need-loop-holds Inv-loop μ-loop
 loop-holds c = (refl, refl, going-start _ _ _ _ _ (c .new .ensures) (c .before .before .before .before .before .pre .1))
 
--- src/run.rt:30:13
 decode-requires : tie.Need-decode-requires Inv-loop μ-loop
 decode-requires c κs = search needs
 
--- src/run.rt:31:30
 enum-known-found : tie.Need-enum-known-found Inv-loop μ-loop
 enum-known-found c = search needs
 
--- src/run.rt:33:25
 enum-told : tie.Need-enum-told Inv-loop μ-loop
 enum-told c = search needs
 
--- src/run.rt:33:25
 refusal-requires : tie.Need-refusal-requires Inv-loop μ-loop
 refusal-requires c κs = search needs
 
--- src/run.rt:32:13
 same-length : tie.Need-same-length Inv-loop μ-loop
 same-length c = search needs
 
--- src/run.rt:32:13
 same-length-2 : tie.Need-same-length-2 Inv-loop μ-loop
 same-length-2 c = search needs
 
--- src/run.rt:32:13
 returns : tie.Need-returns Inv-loop μ-loop
 returns c =
     absurd (never-refused _ _ _ _ _ (c .before .before .before .before .loop .inv .2) (c .before .before .before .decode .ensures) (c .before .enum-told .given .1) (c .refusal .ensures))
 
--- src/run.rt:38:12
 is-end-requires : tie.Need-is-end-requires Inv-loop μ-loop
 is-end-requires c κs = search needs
 
--- src/run.rt:39:13
 same-length-3 : tie.Need-same-length-3 Inv-loop μ-loop
 same-length-3 c = search needs
 
--- src/run.rt:39:13
 same-length-4 : tie.Need-same-length-4 Inv-loop μ-loop
 same-length-4 c = search needs
 
--- src/run.rt:39:13
 returns-2 : tie.Need-returns-2 Inv-loop μ-loop
 returns-2 c =
     at-end _ _ _ _ _ (c .before .before .before .before .before .before .loop .inv .2) (c .before .before .before .before .before .decode .ensures) (c .before .before .before .found .given .1) (c .before .is-end .ensures) (c .if1 .taken)
 
--- src/run.rt:45:13
 step-requires : tie.Need-step-requires Inv-loop μ-loop
 step-requires c κs =
     let s = c .before .before .before .before .before .before .before .before .before .before .before .before .before .before in
     let G = c .before .before .before .before .before .before .before .before .loop .inv .2 in
     (s .pre .0, in-range _ _ _ _ _ G (c .before .before .before .before .before .before .before .decode .ensures) (c .before .before .before .before .before .found .given .1), G .afforded)
 
--- src/run.rt:48:13
 same-length-5 : tie.Need-same-length-5 Inv-loop μ-loop
 same-length-5 c = search needs
 
--- src/run.rt:48:13
 same-length-6 : tie.Need-same-length-6 Inv-loop μ-loop
 same-length-6 c = search needs
 
--- src/run.rt:48:13
 returns-3 : tie.Need-returns-3 Inv-loop μ-loop
 returns-3 c =
     at-refusal _ _ _ _ _ (c .before .before .before .before .before .before .before .before .before .before .before .before .before .before .before .before .loop .inv .2) (c .before .before .before .before .before .before .before .before .before .before .before .before .before .before .before .decode .ensures) (c .before .before .before .before .before .before .before .before .before .before .before .before .before .found .given .1) (c .before .before .before .before .before .before .before .before .before .before .before .is-end .ensures) (c .before .before .before .before .before .before .before .before .before .before .if1 .left) (c .before .before .before .before .before .before .before .step .ensures) (c .if2 .taken)
 
--- src/run.rt:29:5
 loop-less : tie.Need-loop-less Inv-loop μ-loop
 loop-less c = closer _ _ _ _ _ (c .before .before .before .before .before .before .before .before .before .before .before .before .before .before .before .before .loop .inv .2) (c .before .before .before .before .before .before .before .before .before .before .before .before .before .before .before .decode .ensures) (c .before .before .before .before .before .before .before .before .before .before .before .before .before .found .given .1)
 
--- src/run.rt:29:5
 loop-again : tie.Need-loop-again Inv-loop μ-loop
 loop-again c =
     let G = goes-on _ _ _ _ _ (c .before .before .before .before .before .before .before .before .before .before .before .before .before .before .before .before .loop .inv .2) (c .before .before .before .before .before .before .before .before .before .before .before .before .before .before .before .decode .ensures) (c .before .before .before .before .before .before .before .before .before .before .before .before .before .found .given .1) (c .before .before .before .before .before .before .before .before .before .before .before .is-end .ensures) (c .before .before .before .before .before .before .before .before .before .before .if1 .left) (c .before .before .before .before .before .before .before .step .ensures) (c .if2 .left) in

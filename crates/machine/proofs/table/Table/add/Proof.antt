@@ -1,39 +1,30 @@
-use mathlib.Core.Path.{_≡_, refl, sym, ap, _∙_}
-use mathlib.Core.List.{List, [], _∷_}
-use Prim.Native.Nat.{ℕ}
+-- `Table::add` meets its contract: column by column.
+-- Assumes nothing.
+use mathlib.Core.Path.{_≡_, refl, _∙_}
+use mathlib.Core.List.{[], _∷_}
 use lib.ListN.{length}
+use borrow.Author.Needs.{needs}
 use Rattle.model.specs.Costs.{cost}
 use Rattle.model.specs.Run.{register, made, perform, finish}
 use Rattle.model.specs.Script.{ADD}
 use Rattle.model.specs.Steps.{plus}
 use Rattle.sheet.specs.Framed.{settingIn}
 use Rattle.machine.proofs.Keeping.{performs-put, made-left, register-is}
-use borrow.Author.Needs.{needs}
 use Rattle.machine.proofs.table.Table.add.Statement.{statement}
 use Rattle.machine.proofs.table.Table.add.Tie as tie
-use Rattle.machine.proofs.table.Table.add.Reads as reads
-use Rattle.machine.proofs.table.Table.add.Lts as lts
-use Rattle.machine.proofs.table.Table.put.Reads as put-reads
-use Rattle.machine.proofs.table.Table.row.Reads as row-reads
-use Rattle.sharing.proofs.rows.add_rows.Reads as add-rows-reads
 
--- src/linear.rt:37:44
 row-requires : tie.Need-row-requires
 row-requires c κs = search needs
 
--- src/linear.rt:37:57
 row-requires-2 : tie.Need-row-requires-2
 row-requires-2 c κs = search needs
 
--- src/linear.rt:37:13
 add-rows-requires : tie.Need-add-rows-requires
 add-rows-requires c κs = search needs
 
--- src/linear.rt:38:9
 put-requires : tie.Need-put-requires
 put-requires c κs = search needs
 
--- src/linear.rt:33:5
 returns : tie.Need-returns
 unfolding finish perform cost plus
 returns c s log shown =

@@ -1,117 +1,76 @@
-use mathlib.Core.Path.{_≡_, refl, sym, ap, _∙_}
-use mathlib.Core.List.{List, [], _∷_}
-use Prim.Native.Nat.{ℕ, _+_, _-_, _*_}
+-- `Table::blocks` meets its contract: the step BLOCKS.
+-- Assumes nothing.
+use mathlib.Core.Path.{_≡_, refl}
+use mathlib.Core.List.{List}
+use Prim.Native.Nat.{ℕ}
 use native.Mathlib.Omega.{arith}
-use lib.ListN.{length, length-take, length-drop}
+use lib.ListN.{length}
+use denote.Ref.{now}
+use borrow.Author.Needs.{needs}
 use Rattle.model.specs.Costs.{cost}
-use Rattle.model.specs.Run.{register, perform, finish}
-use Rattle.model.specs.Script.{BLOCKS, inRanges}
-use Rattle.model.specs.Steps.{Row, blocks}
+use Rattle.model.specs.Run.{perform, finish}
+use Rattle.model.specs.Script.{BLOCKS}
+use Rattle.model.specs.Steps.{blocks}
 use Rattle.model.proofs.Taking.{took-blocks}
 use Rattle.sheet.specs.Framed.{settingIn}
-use Rattle.machine.specs.Holding.{Ready}
-use Rattle.machine.proofs.Keeping.{performs-put, register-is}
-use Rattle.machine.proofs.Places.{n-most, t-most, l-most, field-of}
-use Rattle.machine.proofs.Readiness.{Masked, within, blocks-ready, next-mask, mask-length, next-triples, step-left}
 use Rattle.sheet.specs.declared.frame.Frame.{Frame}
+use Rattle.script.proofs.InRange.{ranges}
+use Rattle.machine.specs.Holding.{Ready}
 use Rattle.machine.specs.declared.table.Table.{Table}
-use borrow.Author.Needs.{needs}
+use Rattle.machine.proofs.Places.{n-most, t-most, l-most, field-of}
+use Rattle.machine.proofs.Readiness.{Masked, blocks-ready, next-fits, mask-room, triple-room, part-room, masked-performs}
 use Rattle.machine.proofs.table.Table.blocks.Statement.{statement}
 use Rattle.machine.proofs.table.Table.blocks.Tie as tie
-use Rattle.machine.proofs.table.Table.blocks.Reads as reads
-use Rattle.machine.proofs.table.Table.blocks.Lts as lts
-use Rattle.machine.proofs.table.Table.next.Reads as next-reads
-use Rattle.machine.proofs.table.Table.put.Reads as put-reads
-use Rattle.machine.proofs.table.Table.row.Reads as row-reads
-use Rattle.steps.proofs.quotient.blocks.Reads as blocks-reads
 
 -- what the command finds
 found : {s : List ℕ} {f : Frame} {log : ℕ} {t : Table} {d a k m : ℕ} → Ready s f log (BLOCKS d a k m) t → Masked s f log t d a k m
-unfolding cost inRanges
-found R = blocks-ready (R .framed) _ _ _ _ (R .ranged) (R .masks) (R .triples) (R .room)
+unfolding cost
+found {f = f} {d = d} {a} {k} {m} R = blocks-ready (R .framed) (ranges (f .p) (f .largest) (BLOCKS d a k m) (R .ranged)) (R .masks) (R .triples) (R .room)
 
--- src/masking.rt:145:13
 next-requires : tie.Need-next-requires
-next-requires c κs =
-    let R = c .before .before .pre in
-    let W = within R in
-    (l-most (R .framed), n-most (R .framed), omega (arith, W .mask), omega (arith, W .triple), omega (arith, W .log-place))
+next-requires c κs = next-fits (c .before .before .pre) (omega arith) (omega arith)
 
--- src/masking.rt:154:13
 row-requires : tie.Need-row-requires
-row-requires c κs =
-    let R = c .before .before .before .pre in
-    found R .a-in
+row-requires c κs = found (c .before .before .before .pre) .a-in
 
--- src/masking.rt:158:13
 mul-blocks : tie.Need-mul-blocks
 mul-blocks c = search needs
 
--- src/masking.rt:158:13
 sub-blocks : tie.Need-sub-blocks
 sub-blocks c = search needs
 
--- src/masking.rt:158:13
 part-blocks-start : tie.Need-part-blocks-start
 part-blocks-start c = search needs
 
--- src/masking.rt:158:13
 part-blocks-end : tie.Need-part-blocks-end
 part-blocks-end c = search needs
 
--- src/masking.rt:147:13
 blocks-requires : tie.Need-blocks-requires
 blocks-requires c κs =
-    let s = c .before .before .before .before .before in
-    let R = s .pre in
-    let e = c .before .before .next .ensures in
-    let M = found R in (
-      field-of (R .framed) .modulus-is,
-      n-most (R .framed),
-      t-most (R .framed),
-      M .m-least,
-      M .m-most,
-      M .k-most,
-      M .power,
-      M .m-within,
-      l-most (R .framed),
-      rw (e .0) (M .mask-room),
-      rw (e .1) (M .triple-room),
-      simp (length-take, length-drop) (omega (arith, M .log-room, e .2)),
-    )
+    let R = c .before .before .before .before .before .pre in
+    let F = R .framed in
+    let M = found R in
+    let N = c .before .before .next .ensures in
+    (field-of F .modulus-is, n-most F, t-most F, M .m-least, M .m-most, M .k-most, M .power, M .m-within, l-most F, mask-room M N, triple-room M N, part-room M N (now (c .before .before .before .before .before .args .log)) refl)
 
--- src/masking.rt:160:9
 put-requires : tie.Need-put-requires
-put-requires c κs =
-    let R = c .before .before .before .before .before .before .before .before .pre in
-    found R .d-in
+put-requires c κs = found (c .before .before .before .before .before .before .before .before .pre) .d-in
 
--- src/masking.rt:132:5
 same-length : tie.Need-same-length
 same-length c = search needs
 
--- src/masking.rt:132:5
 returns : tie.Need-returns
 unfolding finish perform cost
 returns c shown =
     let s = c .before .before .before .before .before .before .before .before .before in
     let a = s .args in
-    let R = s .pre in
-    let F = R .framed in
-    let M = found R in
-    let S = settingIn (a .f) in
-    let o = a .f .l + 2 * a .m - 2 in
-    let n = c .before .before .before .before .before .before .next .ensures in
-    let z = c .before .before .before .blocks2 .result .shares in
-    let l : length z ≡ 7 = search (needs, c .before .before .before .blocks2 .ok) in
-    performs-put (BLOCKS (a .d) (a .a) (a .k) (a .m)) (a .d) 0 1 o (1 + 2 * o) (a .a ∷ []) z (λ x. blocks S (a .k) (a .m) (register x (a .a)) (x .deal)) refl (λ x. refl)
-    (M .d-in) (n-most F) l (c .put .ensures) (λ log₀ shown₀ x H.
-    let e = c .before .before .before .before .before .row .ensures ∙ register-is H (a .a) (M .a-in) in
-    step-left H
-    (c .before .before .before .blocks2 .ensures (a .f .triples - a .self .spent .triples) (x .deal) (next-mask H (M .masks) (n .0))
-    (next-triples H (omega (arith, M .triples)) (n .1)) (omega (arith, M .triples, M .m-least)))
-    (took-blocks S (n-most F) (a .k) (a .m) (register x (a .a)) (x .deal) (mask-length H (M .masks)) (M .m-least) (M .m-within)) (n .2) (M .room)
-    (ap (λ (y : Row). blocks S (a .k) (a .m) y (x .deal)) e))
+    let F = s .pre .framed in
+    let M = found (s .pre) in
+    let call = c .before .before .before .blocks2 in
+    let seven : length (call .result .shares) ≡ 7 = search (needs, call .ok) in
+    masked-performs (BLOCKS (a .d) (a .a) (a .k) (a .m)) (blocks (settingIn (a .f)) (a .k) (a .m)) F M refl (λ x. refl)
+    (λ w e h. took-blocks (settingIn (a .f)) (n-most F) (a .k) (a .m) w e h (M .m-least) (M .m-within)) (c .before .before .before .before .before .before .next .ensures) (c .before .before .before .before .before .row .ensures) (call .ensures) seven
+    (c .put .ensures)
 
 pub blocks-spec : {M : Type 1} → statement M
 blocks-spec =

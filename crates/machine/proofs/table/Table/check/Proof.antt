@@ -1,28 +1,22 @@
-use mathlib.Core.Path.{_≡_, sym, _∙_}
-use Rattle.machine.proofs.Checks.{unset}
+-- `Table::check` meets its contract: 21, and then the others.
+-- Assumes nothing.
+use mathlib.Core.Path.{sym, _∙_}
 use borrow.Author.Needs.{needs}
+use Rattle.machine.proofs.Checks.{unset}
 use Rattle.machine.proofs.table.Table.check.Statement.{statement}
 use Rattle.machine.proofs.table.Table.check.Tie as tie
-use Rattle.machine.proofs.table.Table.check.Reads as reads
-use Rattle.machine.proofs.table.Table.check.Lts as lts
-use Rattle.machine.proofs.table.Table.affords.Reads as affords-reads
-use Rattle.machine.proofs.table.Table.reads_set.Reads as reads-set-reads
 
--- src/check.rt:122:12
 reads-set-requires : tie.Need-reads-set-requires
 reads-set-requires c κs = search needs
 
--- src/check.rt:123:13
 affords-requires : tie.Need-affords-requires
 affords-requires c κs = search needs
 
--- src/check.rt:118:5
 returns : tie.Need-returns
 returns c =
     let s = c .before .before .before in
     c .affords .ensures _ (s .pre .3) (sym (c .before .if1 .taken) ∙ c .before .before .reads-set .ensures)
 
--- src/check.rt:118:5
 returns-2 : tie.Need-returns-2
 returns-2 c =
     let a = c .before .before .args in

@@ -1,71 +1,53 @@
-use mathlib.Core.Path.{_≡_, refl, sym, ap, _∙_}
-use mathlib.Core.List.{List, [], _∷_}
-use Prim.Native.Nat.{ℕ, suc, _+_, _-_, _*_, _≤_}
+-- `Table::compare` meets its contract: the step BITLT on a run of registers.
+-- Assumes nothing.
+use mathlib.Core.Path.{_≡_, refl, ap}
+use mathlib.Core.List.{List}
+use Prim.Native.Nat.{_-_, _*_}
 use native.Mathlib.Omega.{arith}
-use denote.Ref.{now}
-use lib.ListN.{length, take, drop, length-take, length-drop}
+use lib.ListN.{length, length-take, length-drop}
+use borrow.Author.Needs.{needs}
+use Rattle.algebra.specs.Lists.{from}
 use Rattle.model.specs.Costs.{cost}
 use Rattle.model.specs.Run.{registersFrom, perform, finish}
 use Rattle.model.specs.Script.{BITLT}
 use Rattle.model.specs.Steps.{Row, comparison}
-use Rattle.algebra.specs.Lists.{from}
 use Rattle.sheet.specs.Framed.{settingIn}
 use Rattle.machine.proofs.Keeping.{performs-put}
-use Rattle.machine.proofs.Places.{n-most, t-most, l-most, field-of}
-use Rattle.machine.proofs.Readiness.{within, compare-ready, bits-are, took-bits, next-triples, step-left}
-use borrow.Author.Needs.{needs}
+use Rattle.machine.proofs.Places.{n-most, t-most, field-of}
+use Rattle.machine.proofs.Readiness.{next-fits, compare-ready, bits-are, took-bits, next-triples, step-left}
 use Rattle.machine.proofs.table.Table.compare.Statement.{statement}
 use Rattle.machine.proofs.table.Table.compare.Tie as tie
-use Rattle.machine.proofs.table.Table.compare.Reads as reads
-use Rattle.machine.proofs.table.Table.compare.Lts as lts
-use Rattle.machine.proofs.table.Table.next.Reads as next-reads
-use Rattle.machine.proofs.table.Table.put.Reads as put-reads
-use Rattle.steps.proofs.comparison.comparison.Reads as comparison-reads
 
--- src/opening.rt:55:13
 next-requires : tie.Need-next-requires
-next-requires c κs =
-    let R = c .before .before .pre in
-    let W = within R in
-    (l-most (R .framed), n-most (R .framed), omega (arith, W .mask), omega (arith, W .triple), omega (arith, W .log-place))
+next-requires c κs = next-fits (c .before .before .pre) (omega arith) (omega arith)
 
--- src/opening.rt:64:20
 mul-comparison : tie.Need-mul-comparison
 mul-comparison c = record { fits = omega (arith, compare-ready (c .before .before .before .before .pre) .last-in) }
 
--- src/opening.rt:64:13
 mul-comparison-2 : tie.Need-mul-comparison-2
 mul-comparison-2 c = record { fits = omega (arith, compare-ready (c .before .before .before .before .pre) .last-in) }
 
--- src/opening.rt:64:13
 sub-comparison : tie.Need-sub-comparison
 sub-comparison c = omega (arith, compare-ready (c .before .before .before .before .pre) .last-in)
 
--- src/opening.rt:64:13
 part-comparison-start : tie.Need-part-comparison-start
 part-comparison-start c = omega (arith, compare-ready (c .before .before .before .before .before .pre) .last-in)
 
--- src/opening.rt:64:13
 part-comparison-end : tie.Need-part-comparison-end
 part-comparison-end c = let e : length (c .before .before .before .before .before .args .self .cells) ≡ 448 = search needs in omega arith
 
--- src/opening.rt:67:13
 mul-comparison-3 : tie.Need-mul-comparison-3
 mul-comparison-3 c = search needs
 
--- src/opening.rt:67:13
 sub-comparison-2 : tie.Need-sub-comparison-2
 sub-comparison-2 c = search needs
 
--- src/opening.rt:67:13
 part-comparison-start-2 : tie.Need-part-comparison-start-2
 part-comparison-start-2 c = search needs
 
--- src/opening.rt:67:13
 part-comparison-end-2 : tie.Need-part-comparison-end-2
 part-comparison-end-2 c = search needs
 
--- src/opening.rt:58:13
 comparison-requires : tie.Need-comparison-requires
 comparison-requires c κs =
     let s = c .before .before .before .before .before .before .before in
@@ -83,15 +65,12 @@ comparison-requires c κs =
       simp (length-take, length-drop) (omega (arith, M .spends .log-room, e .2)),
     )
 
--- src/opening.rt:69:9
 put-requires : tie.Need-put-requires
 put-requires c κs = compare-ready (c .before .before .before .before .before .before .before .before .before .before .pre) .d-in
 
--- src/opening.rt:42:5
 same-length : tie.Need-same-length
 same-length c = search needs
 
--- src/opening.rt:42:5
 returns : tie.Need-returns
 unfolding finish perform cost
 returns c shown =

@@ -1,30 +1,24 @@
-use mathlib.Core.Path.{_≡_, refl, sym, ap, _∙_}
-use mathlib.Core.List.{List, [], _∷_}
-use Prim.Native.Nat.{ℕ}
+-- `Table::fill` meets its contract: the same value on every share.
+-- Assumes nothing.
+use mathlib.Core.Path.{_≡_, refl}
+use mathlib.Core.List.{[]}
 use lib.ListN.{length}
+use borrow.Author.Needs.{needs}
 use Rattle.model.specs.Costs.{cost}
-use Rattle.model.specs.Run.{register, made, perform, finish}
+use Rattle.model.specs.Run.{made, perform, finish}
 use Rattle.model.specs.Script.{CONST}
 use Rattle.model.specs.Steps.{constant}
 use Rattle.sheet.specs.Framed.{settingIn}
-use Rattle.machine.proofs.Keeping.{performs-put, made-left, register-is}
-use borrow.Author.Needs.{needs}
+use Rattle.machine.proofs.Keeping.{performs-put, made-left}
 use Rattle.machine.proofs.table.Table.fill.Statement.{statement}
 use Rattle.machine.proofs.table.Table.fill.Tie as tie
-use Rattle.machine.proofs.table.Table.fill.Reads as reads
-use Rattle.machine.proofs.table.Table.fill.Lts as lts
-use Rattle.machine.proofs.table.Table.put.Reads as put-reads
-use Rattle.sharing.proofs.rows.constant_row.Reads as constant-row-reads
 
--- src/linear.rt:29:21
 constant-row-requires : tie.Need-constant-row-requires
 constant-row-requires c κs = search needs
 
--- src/linear.rt:29:9
 put-requires : tie.Need-put-requires
 put-requires c κs = search needs
 
--- src/linear.rt:25:5
 returns : tie.Need-returns
 unfolding finish perform cost constant
 returns c s log shown =

@@ -1,44 +1,35 @@
+-- `Table::load` meets its contract: the row at the next input's place.
+-- Assumes nothing.
 use mathlib.Core.Path.{_≡_, refl, sym, ap, _∙_}
-use mathlib.Core.List.{List, [], _∷_}
-use Prim.Native.Nat.{ℕ}
+use mathlib.Core.List.{[]}
 use native.Mathlib.Omega.{arith}
-use denote.Ref.{now}
 use lib.ListN.{length, getD}
+use denote.Ref.{now}
+use borrow.Author.Needs.{needs}
 use Rattle.model.specs.Costs.{cost}
 use Rattle.model.specs.Run.{Spent, noRow, made, perform, finish}
 use Rattle.model.specs.Script.{LOAD}
 use Rattle.machine.specs.Holding.{inputsOf}
 use Rattle.machine.proofs.Keeping.{performs-put, made-left}
 use Rattle.machine.proofs.Places.{n-most, input-fits, input-at}
-use borrow.Author.Needs.{needs}
 use Rattle.machine.proofs.table.Table.load.Statement.{statement}
 use Rattle.machine.proofs.table.Table.load.Tie as tie
-use Rattle.machine.proofs.table.Table.load.Reads as reads
-use Rattle.machine.proofs.table.Table.load.Lts as lts
-use Rattle.machine.proofs.table.Table.put.Reads as put-reads
-use Rattle.sharing.proofs.rows.read_row.Reads as read-row-reads
 
--- src/linear.rt:18:48
 mul-i : tie.Need-mul-i
 mul-i c = search needs
 
--- src/linear.rt:18:27
 mul-i-2 : tie.Need-mul-i-2
 mul-i-2 c = let h = c .before .before .before .pre in record { fits = omega (arith, input-fits (h .0) _ (h .1)) }
 
--- src/linear.rt:18:17
 add-i : tie.Need-add-i
 add-i c = let h = c .before .before .before .before .pre in record { fits = omega (arith, input-fits (h .0) _ (h .1)) }
 
--- src/linear.rt:19:13
 read-row-requires : tie.Need-read-row-requires
 read-row-requires c κs = let h = c .before .before .before .before .pre in (n-most (h .0), input-fits (h .0) _ (h .1))
 
--- src/linear.rt:20:9
 put-requires : tie.Need-put-requires
 put-requires c κs = search needs
 
--- src/linear.rt:14:5
 returns : tie.Need-returns
 unfolding finish perform cost
 returns c log shown =

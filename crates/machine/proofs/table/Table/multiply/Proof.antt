@@ -1,9 +1,11 @@
-use mathlib.Core.Path.{_≡_, refl, sym, ap, _∙_}
-use mathlib.Core.List.{List, [], _∷_}
-use Prim.Native.Nat.{ℕ, suc, _+_, _-_, _*_, _≤_}
+-- `Table::multiply` meets its contract: the step MUL on two registers.
+-- Assumes nothing.
+use mathlib.Core.Path.{_≡_, refl, ap, _∙_}
+use mathlib.Core.List.{[], _∷_}
+use Prim.Native.Nat.{_-_}
 use native.Mathlib.Omega.{arith}
-use denote.Ref.{now}
-use lib.ListN.{length, take, drop, length-take, length-drop}
+use lib.ListN.{length, length-take, length-drop}
+use borrow.Author.Needs.{needs}
 use Rattle.model.specs.Costs.{cost}
 use Rattle.model.specs.Run.{register, perform, finish}
 use Rattle.model.specs.Script.{MUL}
@@ -11,50 +13,32 @@ use Rattle.model.specs.Steps.{Row, product}
 use Rattle.model.proofs.Taking.{took-product}
 use Rattle.sheet.specs.Framed.{settingIn}
 use Rattle.machine.proofs.Keeping.{performs-put, register-is}
-use Rattle.machine.proofs.Places.{n-most, t-most, l-most, field-of}
-use Rattle.machine.proofs.Readiness.{within, mul-ready, next-triple, step-left}
-use borrow.Author.Needs.{needs}
+use Rattle.machine.proofs.Places.{n-most, t-most, field-of}
+use Rattle.machine.proofs.Readiness.{next-fits, mul-ready, next-triple, step-left}
 use Rattle.machine.proofs.table.Table.multiply.Statement.{statement}
 use Rattle.machine.proofs.table.Table.multiply.Tie as tie
-use Rattle.machine.proofs.table.Table.multiply.Reads as reads
-use Rattle.machine.proofs.table.Table.multiply.Lts as lts
-use Rattle.machine.proofs.table.Table.next.Reads as next-reads
-use Rattle.machine.proofs.table.Table.put.Reads as put-reads
-use Rattle.machine.proofs.table.Table.row.Reads as row-reads
-use Rattle.steps.proofs.product.product.Reads as product-reads
 
--- src/opening.rt:26:13
 next-requires : tie.Need-next-requires
-next-requires c κs =
-    let R = c .before .before .pre in
-    let W = within R in
-    (l-most (R .framed), n-most (R .framed), omega (arith, W .mask), omega (arith, W .triple), omega (arith, W .log-place))
+next-requires c κs = next-fits (c .before .before .pre) (omega arith) (omega arith)
 
--- src/opening.rt:32:13
 row-requires : tie.Need-row-requires
 row-requires c κs = mul-ready (c .before .before .before .pre) .a-in
 
--- src/opening.rt:33:13
 row-requires-2 : tie.Need-row-requires-2
 row-requires-2 c κs = mul-ready (c .before .before .before .before .pre) .b-in
 
--- src/opening.rt:36:13
 mul-product : tie.Need-mul-product
 mul-product c = search needs
 
--- src/opening.rt:36:13
 sub-product : tie.Need-sub-product
 sub-product c = search needs
 
--- src/opening.rt:36:13
 part-product-start : tie.Need-part-product-start
 part-product-start c = search needs
 
--- src/opening.rt:36:13
 part-product-end : tie.Need-part-product-end
 part-product-end c = search needs
 
--- src/opening.rt:28:13
 product-requires : tie.Need-product-requires
 product-requires c κs =
     let R = c .before .before .before .before .before .before .pre in
@@ -67,15 +51,12 @@ product-requires c κs =
       simp (length-take, length-drop) (omega (arith, M .log-room, e .2)),
     )
 
--- src/opening.rt:38:9
 put-requires : tie.Need-put-requires
 put-requires c κs = mul-ready (c .before .before .before .before .before .before .before .before .before .pre) .d-in
 
--- src/opening.rt:14:5
 same-length : tie.Need-same-length
 same-length c = search needs
 
--- src/opening.rt:14:5
 returns : tie.Need-returns
 unfolding finish perform cost
 returns c shown =

@@ -1,120 +1,76 @@
-use Rattle.algebra.proofs.Tests.{and-left}
-use mathlib.Core.Path.{_≡_, refl, sym, ap, _∙_}
-use mathlib.Core.List.{List, [], _∷_}
-use Prim.Native.Nat.{ℕ, _+_, _-_, _*_}
+-- `Table::over` meets its contract: the step OVER.
+-- Assumes nothing.
+use mathlib.Core.Path.{_≡_, refl}
+use mathlib.Core.List.{List}
+use Prim.Native.Nat.{ℕ, _-_}
 use native.Mathlib.Omega.{arith}
-use lib.ListN.{length, length-take, length-drop}
+use lib.ListN.{length}
+use denote.Ref.{now}
+use borrow.Author.Needs.{needs}
 use Rattle.model.specs.Costs.{cost}
-use Rattle.model.specs.Run.{register, perform, finish}
-use Rattle.model.specs.Script as Script
-use Rattle.model.specs.Script.{OVER, inRanges, kIn}
-use mathlib.Core.Bool.{_&&_}
-use lib.Dec.{ltb}
-use Rattle.model.specs.Steps.{Row, over}
+use Rattle.model.specs.Run.{perform, finish}
+use Rattle.model.specs.Script.{OVER}
+use Rattle.model.specs.Steps.{over}
 use Rattle.model.proofs.Taking.{took-over}
 use Rattle.sheet.specs.Framed.{settingIn}
-use Rattle.machine.specs.Holding.{Ready}
-use Rattle.machine.proofs.Keeping.{performs-put, register-is}
-use Rattle.machine.proofs.Places.{n-most, t-most, l-most, field-of}
-use Rattle.machine.proofs.Readiness.{Masked, within, sign-ready, next-mask, mask-length, next-triples, step-left}
 use Rattle.sheet.specs.declared.frame.Frame.{Frame}
+use Rattle.script.proofs.InRange.{ranges}
+use Rattle.machine.specs.Holding.{Ready}
 use Rattle.machine.specs.declared.table.Table.{Table}
-use borrow.Author.Needs.{needs}
+use Rattle.machine.proofs.Places.{n-most, t-most, l-most, field-of}
+use Rattle.machine.proofs.Readiness.{Masked, sign-ready, next-fits, mask-room, triple-room, part-room, masked-performs}
 use Rattle.machine.proofs.table.Table.over.Statement.{statement}
 use Rattle.machine.proofs.table.Table.over.Tie as tie
-use Rattle.machine.proofs.table.Table.over.Reads as reads
-use Rattle.machine.proofs.table.Table.over.Lts as lts
-use Rattle.machine.proofs.table.Table.next.Reads as next-reads
-use Rattle.machine.proofs.table.Table.put.Reads as put-reads
-use Rattle.machine.proofs.table.Table.row.Reads as row-reads
-use Rattle.steps.proofs.quotient.over.Reads as over-reads
 
 -- what the command finds
 found : {s : List ℕ} {f : Frame} {log : ℕ} {t : Table} {d a k v : ℕ} → Ready s f log (OVER d a k v) t → Masked s f log t d a k (k - 1)
-unfolding cost inRanges
-found {f = f} {d = d} {a} {k} {v} R = sign-ready (R .framed) _ _ _ (and-left (Script.register d && Script.register a && kIn (f .largest) k) (ltb v (f .p)) (R .ranged)) (R .masks) (R .triples) (R .room)
+unfolding cost
+found {f = f} {d = d} {a} {k} {v} R = sign-ready (R .framed) (ranges (f .p) (f .largest) (OVER d a k v) (R .ranged) .0) (R .masks) (R .triples) (R .room)
 
--- src/masking.rt:113:13
 next-requires : tie.Need-next-requires
-next-requires c κs =
-    let R = c .before .before .pre in
-    let W = within R in
-    (l-most (R .framed), n-most (R .framed), omega (arith, W .mask), omega (arith, W .triple), omega (arith, W .log-place))
+next-requires c κs = next-fits (c .before .before .pre) (omega arith) (omega arith)
 
--- src/masking.rt:122:13
 row-requires : tie.Need-row-requires
-row-requires c κs =
-    let R = c .before .before .before .pre in
-    found R .a-in
+row-requires c κs = found (c .before .before .before .pre) .a-in
 
--- src/masking.rt:126:13
 mul-over : tie.Need-mul-over
 mul-over c = search needs
 
--- src/masking.rt:126:13
 sub-over : tie.Need-sub-over
 sub-over c = search needs
 
--- src/masking.rt:126:13
 part-over-start : tie.Need-part-over-start
 part-over-start c = search needs
 
--- src/masking.rt:126:13
 part-over-end : tie.Need-part-over-end
 part-over-end c = search needs
 
--- src/masking.rt:115:13
 over-requires : tie.Need-over-requires
 over-requires c κs =
-    let s = c .before .before .before .before .before in
-    let R = s .pre in
-    let e = c .before .before .next .ensures in
-    let M = found R in (
-      field-of (R .framed) .modulus-is,
-      n-most (R .framed),
-      t-most (R .framed),
-      omega (arith, M .m-least),
-      M .k-most,
-      M .power,
-      M .m-within,
-      l-most (R .framed),
-      rw (e .0) (M .mask-room),
-      rw (e .1) (M .triple-room),
-      simp (length-take, length-drop) (omega (arith, M .log-room, e .2)),
-    )
+    let R = c .before .before .before .before .before .pre in
+    let F = R .framed in
+    let M = found R in
+    let N = c .before .before .next .ensures in
+    (field-of F .modulus-is, n-most F, t-most F, omega (arith, M .m-least), M .k-most, M .power, M .m-within, l-most F, mask-room M N, triple-room M N, part-room M N (now (c .before .before .before .before .before .args .log)) refl)
 
--- src/masking.rt:128:9
 put-requires : tie.Need-put-requires
-put-requires c κs =
-    let R = c .before .before .before .before .before .before .before .before .pre in
-    found R .d-in
+put-requires c κs = found (c .before .before .before .before .before .before .before .before .pre) .d-in
 
--- src/masking.rt:100:5
 same-length : tie.Need-same-length
 same-length c = search needs
 
--- src/masking.rt:100:5
 returns : tie.Need-returns
 unfolding finish perform cost
 returns c shown =
     let s = c .before .before .before .before .before .before .before .before .before in
     let a = s .args in
-    let R = s .pre in
-    let F = R .framed in
-    let M = found R in
-    let S = settingIn (a .f) in
-    let o = a .f .l + 2 * (a .k - 1) - 2 in
-    let n = c .before .before .before .before .before .before .next .ensures in
-    let z = c .before .before .before .over .result .shares in
-    let l : length z ≡ 7 = search (needs, c .before .before .before .over .ok) in
-    performs-put (OVER (a .d) (a .a) (a .k) (a .v)) (a .d) 0 1 o (1 + 2 * o) (a .a ∷ []) z (λ x. over S (a .k) (a .v) (register x (a .a)) (x .deal)) refl (λ x. refl)
-    (M .d-in) (n-most F) l (c .put .ensures) (λ log₀ shown₀ x H.
-    let e = c .before .before .before .before .before .row .ensures ∙ register-is H (a .a) (M .a-in) in
-    step-left H
-    (c .before .before .before .over .ensures (a .f .triples - a .self .spent .triples) (x .deal) (next-mask H (M .masks) (n .0))
-    (next-triples H (omega (arith, M .triples)) (n .1)) (omega (arith, M .triples, M .m-least)))
-    (took-over S (n-most F) (a .k) (a .v) (register x (a .a)) (x .deal) (mask-length H (M .masks)) (omega (arith, M .m-least)) (M .m-within)) (n .2) (M .room)
-    (ap (λ (y : Row). over S (a .k) (a .v) y (x .deal)) e))
+    let F = s .pre .framed in
+    let M = found (s .pre) in
+    let call = c .before .before .before .over in
+    let seven : length (call .result .shares) ≡ 7 = search (needs, call .ok) in
+    masked-performs (OVER (a .d) (a .a) (a .k) (a .v)) (over (settingIn (a .f)) (a .k) (a .v)) F M refl (λ x. refl)
+    (λ w e h. took-over (settingIn (a .f)) (n-most F) (a .k) (a .v) w e h (omega (arith, M .m-least)) (M .m-within)) (c .before .before .before .before .before .before .next .ensures) (c .before .before .before .before .before .row .ensures) (call .ensures) seven
+    (c .put .ensures)
 
 pub over-spec : {M : Type 1} → statement M
 over-spec =

@@ -1,41 +1,25 @@
-use mathlib.Core.Path.{_≡_, refl}
+-- `Table::perform` meets its contract: by the command.
+-- Assumes nothing.
+use mathlib.Core.Path.{refl}
 use Prim.Native.Nat.{_+_, _≤_}
 use native.Mathlib.Omega.{arith}
-use denote.Ref.{now}
 use lib.ListN.{length}
+use denote.Ref.{now}
+use borrow.Author.Needs.{needs}
 use Rattle.model.specs.Costs.{cost}
 use Rattle.model.specs.Run.{perform, finish}
 use Rattle.machine.proofs.Keeping.{holds-idle}
 use Rattle.machine.proofs.Places.{n-most, field-of}
 use Rattle.machine.proofs.Ranging.{ranged, readied}
-use borrow.Author.Needs.{needs}
 use Rattle.machine.proofs.table.Table.perform.Statement.{statement}
 use Rattle.machine.proofs.table.Table.perform.Tie as tie
-use Rattle.machine.proofs.table.Table.perform.Reads as reads
-use Rattle.machine.proofs.table.Table.perform.Lts as lts
-use Rattle.machine.proofs.table.Table.add.Reads as add-reads
-use Rattle.machine.proofs.table.Table.blocks.Reads as blocks-reads
-use Rattle.machine.proofs.table.Table.compare.Reads as compare-reads
-use Rattle.machine.proofs.table.Table.fill.Reads as fill-reads
-use Rattle.machine.proofs.table.Table.floor.Reads as floor-reads
-use Rattle.machine.proofs.table.Table.load.Reads as load-reads
-use Rattle.machine.proofs.table.Table.multiply.Reads as multiply-reads
-use Rattle.machine.proofs.table.Table.over.Reads as over-reads
-use Rattle.machine.proofs.table.Table.remainder.Reads as remainder-reads
-use Rattle.machine.proofs.table.Table.reveal.Reads as reveal-reads
-use Rattle.machine.proofs.table.Table.scale.Reads as scale-reads
-use Rattle.machine.proofs.table.Table.sign.Reads as sign-reads
-use Rattle.machine.proofs.table.Table.sub.Reads as sub-reads
 
--- src/step.rt:52:29
 enum-told : tie.Need-enum-told
 enum-told c = search needs
 
--- src/step.rt:53:29
 enum-known-c : tie.Need-enum-known-c
 enum-known-c c = search needs
 
--- src/step.rt:53:36
 load-requires : tie.Need-load-requires
 unfolding cost
 load-requires c κs =
@@ -45,11 +29,9 @@ load-requires c κs =
     let r = ranged (s .args .f) (R .ranged) e in
     (R .framed, readied R e .inputs, r)
 
--- src/step.rt:54:30
 enum-known-c-2 : tie.Need-enum-known-c-2
 enum-known-c-2 c = search needs
 
--- src/step.rt:54:40
 fill-requires : tie.Need-fill-requires
 fill-requires c κs =
     let s = c .before .before .before .before .before .before in
@@ -58,11 +40,9 @@ fill-requires c κs =
     let r = ranged (s .args .f) (R .ranged) e in
     (n-most (R .framed), r .0)
 
--- src/step.rt:55:28
 enum-known-c-3 : tie.Need-enum-known-c-3
 enum-known-c-3 c = search needs
 
--- src/step.rt:55:41
 add-requires : tie.Need-add-requires
 add-requires c κs =
     let s = c .before .before .before .before .before .before in
@@ -71,11 +51,9 @@ add-requires c κs =
     let r = ranged (s .args .f) (R .ranged) e in
     (field-of (R .framed) .modulus-is, n-most (R .framed), r .d-in, r .a-in, r .b-in)
 
--- src/step.rt:56:28
 enum-known-c-4 : tie.Need-enum-known-c-4
 enum-known-c-4 c = search needs
 
--- src/step.rt:56:41
 sub-requires : tie.Need-sub-requires
 sub-requires c κs =
     let s = c .before .before .before .before .before .before in
@@ -84,11 +62,9 @@ sub-requires c κs =
     let r = ranged (s .args .f) (R .ranged) e in
     (field-of (R .framed) .modulus-is, n-most (R .framed), r .d-in, r .a-in, r .b-in)
 
--- src/step.rt:57:30
 enum-known-c-5 : tie.Need-enum-known-c-5
 enum-known-c-5 c = search needs
 
--- src/step.rt:57:43
 scale-requires : tie.Need-scale-requires
 scale-requires c κs =
     let s = c .before .before .before .before .before .before in
@@ -97,59 +73,45 @@ scale-requires c κs =
     let r = ranged (s .args .f) (R .ranged) e in
     (field-of (R .framed) .modulus-is, n-most (R .framed), r .0 .d-in, r .0 .a-in)
 
--- src/step.rt:58:28
 enum-known-c-6 : tie.Need-enum-known-c-6
 enum-known-c-6 c = search needs
 
--- src/step.rt:58:41
 multiply-requires : tie.Need-multiply-requires
 multiply-requires c κs = readied (c .before .before .before .before .before .before .before .pre .0) (c .before .before .c6 .given .1)
 
--- src/step.rt:59:28
 enum-known-c-7 : tie.Need-enum-known-c-7
 enum-known-c-7 c = search needs
 
--- src/step.rt:59:44
 remainder-requires : tie.Need-remainder-requires
 remainder-requires c κs = readied (c .before .before .before .before .before .before .before .pre .0) (c .before .before .c7 .given .1)
 
--- src/step.rt:60:30
 enum-known-c-8 : tie.Need-enum-known-c-8
 enum-known-c-8 c = search needs
 
--- src/step.rt:60:46
 floor-requires : tie.Need-floor-requires
 floor-requires c κs = readied (c .before .before .before .before .before .before .before .pre .0) (c .before .before .c8 .given .1)
 
--- src/step.rt:61:28
 enum-known-c-9 : tie.Need-enum-known-c-9
 enum-known-c-9 c = search needs
 
--- src/step.rt:61:41
 sign-requires : tie.Need-sign-requires
 sign-requires c κs = readied (c .before .before .before .before .before .before .before .pre .0) (c .before .before .c9 .given .1)
 
--- src/step.rt:62:29
 enum-known-c-10 : tie.Need-enum-known-c-10
 enum-known-c-10 c = search needs
 
--- src/step.rt:62:45
 over-requires : tie.Need-over-requires
 over-requires c κs = readied (c .before .before .before .before .before .before .before .pre .0) (c .before .before .c10 .given .1)
 
--- src/step.rt:63:31
 enum-known-c-11 : tie.Need-enum-known-c-11
 enum-known-c-11 c = search needs
 
--- src/step.rt:63:47
 blocks-requires : tie.Need-blocks-requires
 blocks-requires c κs = readied (c .before .before .before .before .before .before .before .pre .0) (c .before .before .c11 .given .1)
 
--- src/step.rt:64:31
 enum-known-c-12 : tie.Need-enum-known-c-12
 enum-known-c-12 c = search needs
 
--- src/step.rt:64:38
 reveal-requires : tie.Need-reveal-requires
 unfolding cost
 reveal-requires c κs =
@@ -158,104 +120,79 @@ reveal-requires c κs =
     let room : s .args .self .spent .revealed + 1 ≤ length (now (s .args .revealed)) = rw e at (s .pre .1) in
     (readied (s .pre .0) e, omega arith)
 
--- src/step.rt:65:30
 enum-known-c-13 : tie.Need-enum-known-c-13
 enum-known-c-13 c = search needs
 
--- src/step.rt:65:46
 compare-requires : tie.Need-compare-requires
 compare-requires c κs = readied (c .before .before .before .before .before .before .before .pre .0) (c .before .before .c13 .given .1)
 
--- src/step.rt:47:5
 returns : tie.Need-returns
 unfolding cost finish perform
 returns c = rw (c .enum-told .given .1) (refl, λ log₀ shown₀ x H. holds-idle H)
 
--- src/step.rt:47:5
 returns-2 : tie.Need-returns-2
 returns-2 c = rw (c .before .before .c .given .1) (c .load .ensures _ _)
 
--- src/step.rt:47:5
 returns-3 : tie.Need-returns-3
 returns-3 c = rw (c .before .before .c2 .given .1) (c .fill .ensures _ _ _)
 
--- src/step.rt:47:5
 returns-4 : tie.Need-returns-4
 returns-4 c = rw (c .before .before .c3 .given .1) (c .add .ensures _ _ _)
 
--- src/step.rt:47:5
 returns-5 : tie.Need-returns-5
 returns-5 c = rw (c .before .before .c4 .given .1) (c .sub .ensures _ _ _)
 
--- src/step.rt:47:5
 returns-6 : tie.Need-returns-6
 returns-6 c = rw (c .before .before .c5 .given .1) (c .scale .ensures _ _ _)
 
--- src/step.rt:47:5
 same-length : tie.Need-same-length
 same-length c = search needs
 
--- src/step.rt:47:5
 returns-7 : tie.Need-returns-7
 returns-7 c = rw (c .before .before .before .before .before .c6 .given .1) (c .before .before .multiply .ensures _)
 
--- src/step.rt:47:5
 same-length-2 : tie.Need-same-length-2
 same-length-2 c = search needs
 
--- src/step.rt:47:5
 returns-8 : tie.Need-returns-8
 returns-8 c = rw (c .before .before .before .before .before .c7 .given .1) (c .before .before .remainder .ensures _)
 
--- src/step.rt:47:5
 same-length-3 : tie.Need-same-length-3
 same-length-3 c = search needs
 
--- src/step.rt:47:5
 returns-9 : tie.Need-returns-9
 returns-9 c = rw (c .before .before .before .before .before .c8 .given .1) (c .before .before .floor .ensures _)
 
--- src/step.rt:47:5
 same-length-4 : tie.Need-same-length-4
 same-length-4 c = search needs
 
--- src/step.rt:47:5
 returns-10 : tie.Need-returns-10
 returns-10 c = rw (c .before .before .before .before .before .c9 .given .1) (c .before .before .sign .ensures _)
 
--- src/step.rt:47:5
 same-length-5 : tie.Need-same-length-5
 same-length-5 c = search needs
 
--- src/step.rt:47:5
 returns-11 : tie.Need-returns-11
 returns-11 c = rw (c .before .before .before .before .before .c10 .given .1) (c .before .before .over .ensures _)
 
--- src/step.rt:47:5
 same-length-6 : tie.Need-same-length-6
 same-length-6 c = search needs
 
--- src/step.rt:47:5
 returns-12 : tie.Need-returns-12
 returns-12 c = rw (c .before .before .before .before .before .c11 .given .1) (c .before .before .blocks2 .ensures _)
 
--- src/step.rt:47:5
 same-length-7 : tie.Need-same-length-7
 same-length-7 c = search needs
 
--- src/step.rt:47:5
 same-length-8 : tie.Need-same-length-8
 same-length-8 c = search needs
 
--- src/step.rt:47:5
 returns-13 : tie.Need-returns-13
 returns-13 c = rw (c .before .before .before .before .before .before .before .before .c12 .given .1) (c .before .before .before .before .reveal .ensures)
 
--- src/step.rt:47:5
 same-length-9 : tie.Need-same-length-9
 same-length-9 c = search needs
 
--- src/step.rt:47:5
 returns-14 : tie.Need-returns-14
 returns-14 c = rw (c .before .before .before .before .before .c13 .given .1) (c .before .before .compare .ensures _)
 

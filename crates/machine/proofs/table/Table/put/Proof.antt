@@ -1,45 +1,36 @@
+-- `Table::put` meets its contract: a row over seven cells, and a mark.
+-- Assumes nothing.
 use mathlib.Core.List.{List}
-use Prim.Native.Nat.{ℕ}
-use Rattle.machine.proofs.Registers.{put-cells, put-done}
 use mathlib.Core.Path.{_≡_}
-use lib.ListN.{length}
+use Prim.Native.Nat.{ℕ}
 use native.Mathlib.Omega.{arith}
+use lib.ListN.{length}
 use borrow.Author.Needs.{needs}
+use Rattle.machine.proofs.Registers.{put-cells, put-done}
 use Rattle.machine.proofs.table.Table.put.Statement.{statement}
 use Rattle.machine.proofs.table.Table.put.Tie as tie
-use Rattle.machine.proofs.table.Table.put.Reads as reads
-use Rattle.machine.proofs.table.Table.put.Lts as lts
-use Rattle.sharing.proofs.rows.put_shares.Reads as put-shares-reads
 
--- src/table.rt:66:37
 mul-cells : tie.Need-mul-cells
 mul-cells c = search needs
 
--- src/table.rt:66:26
 mul-cells-2 : tie.Need-mul-cells-2
 mul-cells-2 c = search needs
 
--- src/table.rt:66:26
 sub-put-shares : tie.Need-sub-put-shares
 sub-put-shares c = search needs
 
--- src/table.rt:66:26
 part-cells-start : tie.Need-part-cells-start
 part-cells-start c = search needs
 
--- src/table.rt:66:26
 part-cells-end : tie.Need-part-cells-end
 part-cells-end c = let e : length (c .before .args .self .cells) ≡ 448 = search needs in omega arith
 
--- src/table.rt:66:9
 put-shares-requires : tie.Need-put-shares-requires
 put-shares-requires c κs = search needs
 
--- src/table.rt:68:9
 array-write-marks : tie.Need-array-write-marks
 array-write-marks c = search needs
 
--- src/table.rt:61:5
 returns : tie.Need-returns
 returns c =
     let s = c .before .before .before .before .before .before in

@@ -1,185 +1,139 @@
-use mathlib.Core.Path.{_≡_, refl, sym, ap, _∙_}
-use mathlib.Core.Bool.{Bool, true, false, _&&_}
-use native.Mathlib.Omega.{arith}
-use lib.ListN.{getD}
+-- `Table::reads_set` meets its contract: by the command.
+-- Assumes nothing.
+use borrow.Author.Needs.{needs}
 use Rattle.model.specs.Costs.{cost}
 use Rattle.model.specs.Run.{allSet}
 use Rattle.machine.proofs.Ranging.{ranged}
-use borrow.Author.Needs.{needs}
 use Rattle.machine.proofs.table.Table.reads_set.Statement.{statement}
 use Rattle.machine.proofs.table.Table.reads_set.Tie as tie
-use Rattle.machine.proofs.table.Table.reads_set.Reads as reads
-use Rattle.machine.proofs.table.Table.reads_set.Lts as lts
-use Rattle.machine.proofs.table.Table.both_set.Reads as both-set-reads
-use Rattle.machine.proofs.table.Table.run_set.Reads as run-set-reads
-use Rattle.machine.proofs.table.Table.set.Reads as set-reads
 
--- src/check.rt:57:29
 enum-told : tie.Need-enum-told
 enum-told c = search needs
 
--- src/check.rt:58:39
 enum-told-2 : tie.Need-enum-told-2
 enum-told-2 c = search needs
 
--- src/check.rt:59:46
 enum-told-3 : tie.Need-enum-told-3
 enum-told-3 c = search needs
 
--- src/check.rt:60:34
 enum-known-c : tie.Need-enum-known-c
 enum-known-c c = search needs
 
--- src/check.rt:60:44
 both-set-requires : tie.Need-both-set-requires
 both-set-requires c κs = let r = ranged (c .before .before .before .args .f) (c .before .before .before .pre) (c .before .c .given .1) in (r .a-in, r .b-in)
 
--- src/check.rt:61:34
 enum-known-c-2 : tie.Need-enum-known-c-2
 enum-known-c-2 c = search needs
 
--- src/check.rt:61:44
 both-set-requires-2 : tie.Need-both-set-requires-2
 both-set-requires-2 c κs = let r = ranged (c .before .before .before .args .f) (c .before .before .before .pre) (c .before .c2 .given .1) in (r .a-in, r .b-in)
 
--- src/check.rt:62:36
 enum-known-c-3 : tie.Need-enum-known-c-3
 enum-known-c-3 c = search needs
 
--- src/check.rt:62:49
 set-requires : tie.Need-set-requires
 set-requires c κs = ranged (c .before .before .before .args .f) (c .before .before .before .pre) (c .before .c3 .given .1) .0 .a-in
 
--- src/check.rt:63:34
 enum-known-c-4 : tie.Need-enum-known-c-4
 enum-known-c-4 c = search needs
 
--- src/check.rt:63:44
 both-set-requires-3 : tie.Need-both-set-requires-3
 both-set-requires-3 c κs = let r = ranged (c .before .before .before .args .f) (c .before .before .before .pre) (c .before .c4 .given .1) in (r .a-in, r .b-in)
 
--- src/check.rt:66:17
 enum-known-c-5 : tie.Need-enum-known-c-5
 enum-known-c-5 c = search needs
 
--- src/check.rt:69:18
 set-requires-2 : tie.Need-set-requires-2
 set-requires-2 c κs = ranged (c .before .before .before .args .f) (c .before .before .before .pre) (c .before .c5 .given .1) .a-in
 
--- src/check.rt:72:17
 enum-known-c-6 : tie.Need-enum-known-c-6
 enum-known-c-6 c = search needs
 
--- src/check.rt:75:18
 set-requires-3 : tie.Need-set-requires-3
 set-requires-3 c κs = ranged (c .before .before .before .args .f) (c .before .before .before .pre) (c .before .c6 .given .1) .a-in
 
--- src/check.rt:76:34
 enum-known-c-7 : tie.Need-enum-known-c-7
 enum-known-c-7 c = search needs
 
--- src/check.rt:76:47
 set-requires-4 : tie.Need-set-requires-4
 set-requires-4 c κs = ranged (c .before .before .before .args .f) (c .before .before .before .pre) (c .before .c7 .given .1) .a-in
 
--- src/check.rt:79:17
 enum-known-c-8 : tie.Need-enum-known-c-8
 enum-known-c-8 c = search needs
 
--- src/check.rt:82:18
 set-requires-5 : tie.Need-set-requires-5
 set-requires-5 c κs = ranged (c .before .before .before .args .f) (c .before .before .before .pre) (c .before .c8 .given .1) .0 .a-in
 
--- src/check.rt:85:17
 enum-known-c-9 : tie.Need-enum-known-c-9
 enum-known-c-9 c = search needs
 
--- src/check.rt:88:18
 set-requires-6 : tie.Need-set-requires-6
 set-requires-6 c κs = ranged (c .before .before .before .args .f) (c .before .before .before .pre) (c .before .c9 .given .1) .a-in
 
--- src/check.rt:89:31
 enum-known-c-10 : tie.Need-enum-known-c-10
 enum-known-c-10 c = search needs
 
--- src/check.rt:89:38
 set-requires-7 : tie.Need-set-requires-7
 set-requires-7 c κs = ranged (c .before .before .before .args .f) (c .before .before .before .pre) (c .before .c10 .given .1)
 
--- src/check.rt:90:36
 enum-known-c-11 : tie.Need-enum-known-c-11
 enum-known-c-11 c = search needs
 
--- src/check.rt:90:52
 run-set-requires : tie.Need-run-set-requires
 run-set-requires c κs = ranged (c .before .before .before .args .f) (c .before .before .before .pre) (c .before .c11 .given .1) .bits-in
 
--- src/check.rt:52:5
 returns : tie.Need-returns
 unfolding cost allSet
 returns c = rw (c .enum-told .given .1)
 
--- src/check.rt:52:5
 returns-2 : tie.Need-returns-2
 unfolding cost allSet
 returns-2 c = rw (c .enum-told2 .given .1)
 
--- src/check.rt:52:5
 returns-3 : tie.Need-returns-3
 unfolding cost allSet
 returns-3 c = rw (c .enum-told3 .given .1)
 
--- src/check.rt:52:5
 returns-4 : tie.Need-returns-4
 unfolding cost
 returns-4 c = rw (c .before .before .c .given .1) (c .both-set .ensures)
 
--- src/check.rt:52:5
 returns-5 : tie.Need-returns-5
 unfolding cost
 returns-5 c = rw (c .before .before .c2 .given .1) (c .both-set2 .ensures)
 
--- src/check.rt:52:5
 returns-6 : tie.Need-returns-6
 unfolding cost
 returns-6 c = rw (c .before .before .c3 .given .1) (c .set .ensures)
 
--- src/check.rt:52:5
 returns-7 : tie.Need-returns-7
 unfolding cost
 returns-7 c = rw (c .before .before .c4 .given .1) (c .both-set3 .ensures)
 
--- src/check.rt:52:5
 returns-8 : tie.Need-returns-8
 unfolding cost
 returns-8 c = rw (c .before .before .c5 .given .1) (c .set2 .ensures)
 
--- src/check.rt:52:5
 returns-9 : tie.Need-returns-9
 unfolding cost
 returns-9 c = rw (c .before .before .c6 .given .1) (c .set3 .ensures)
 
--- src/check.rt:52:5
 returns-10 : tie.Need-returns-10
 unfolding cost
 returns-10 c = rw (c .before .before .c7 .given .1) (c .set4 .ensures)
 
--- src/check.rt:52:5
 returns-11 : tie.Need-returns-11
 unfolding cost
 returns-11 c = rw (c .before .before .c8 .given .1) (c .set5 .ensures)
 
--- src/check.rt:52:5
 returns-12 : tie.Need-returns-12
 unfolding cost
 returns-12 c = rw (c .before .before .c9 .given .1) (c .set6 .ensures)
 
--- src/check.rt:52:5
 returns-13 : tie.Need-returns-13
 unfolding cost
 returns-13 c = rw (c .before .before .c10 .given .1) (c .set7 .ensures)
 
--- src/check.rt:52:5
 returns-14 : tie.Need-returns-14
 unfolding cost
 returns-14 c = rw (c .before .before .c11 .given .1) (c .run-set .ensures)

@@ -1,117 +1,76 @@
-use mathlib.Core.Path.{_≡_, refl, sym, ap, _∙_}
-use mathlib.Core.List.{List, [], _∷_}
-use Prim.Native.Nat.{ℕ, _+_, _-_, _*_}
+-- `Table::remainder` meets its contract: the step MOD.
+-- Assumes nothing.
+use mathlib.Core.Path.{_≡_, refl}
+use mathlib.Core.List.{List}
+use Prim.Native.Nat.{ℕ}
 use native.Mathlib.Omega.{arith}
-use lib.ListN.{length, length-take, length-drop}
+use lib.ListN.{length}
+use denote.Ref.{now}
+use borrow.Author.Needs.{needs}
 use Rattle.model.specs.Costs.{cost}
-use Rattle.model.specs.Run.{register, perform, finish}
-use Rattle.model.specs.Script.{MOD, inRanges}
-use Rattle.model.specs.Steps.{Row, remainder}
+use Rattle.model.specs.Run.{perform, finish}
+use Rattle.model.specs.Script.{MOD}
+use Rattle.model.specs.Steps.{remainder}
 use Rattle.model.proofs.Taking.{took-remainder}
 use Rattle.sheet.specs.Framed.{settingIn}
-use Rattle.machine.specs.Holding.{Ready}
-use Rattle.machine.proofs.Keeping.{performs-put, register-is}
-use Rattle.machine.proofs.Places.{n-most, t-most, l-most, field-of}
-use Rattle.machine.proofs.Readiness.{Masked, within, blocks-ready, next-mask, mask-length, next-triples, step-left}
 use Rattle.sheet.specs.declared.frame.Frame.{Frame}
+use Rattle.script.proofs.InRange.{ranges}
+use Rattle.machine.specs.Holding.{Ready}
 use Rattle.machine.specs.declared.table.Table.{Table}
-use borrow.Author.Needs.{needs}
+use Rattle.machine.proofs.Places.{n-most, t-most, l-most, field-of}
+use Rattle.machine.proofs.Readiness.{Masked, blocks-ready, next-fits, mask-room, triple-room, part-room, masked-performs}
 use Rattle.machine.proofs.table.Table.remainder.Statement.{statement}
 use Rattle.machine.proofs.table.Table.remainder.Tie as tie
-use Rattle.machine.proofs.table.Table.remainder.Reads as reads
-use Rattle.machine.proofs.table.Table.remainder.Lts as lts
-use Rattle.machine.proofs.table.Table.next.Reads as next-reads
-use Rattle.machine.proofs.table.Table.put.Reads as put-reads
-use Rattle.machine.proofs.table.Table.row.Reads as row-reads
-use Rattle.steps.proofs.remainder.remainder.Reads as remainder-reads
 
 -- what the command finds
 found : {s : List ℕ} {f : Frame} {log : ℕ} {t : Table} {d a k m : ℕ} → Ready s f log (MOD d a k m) t → Masked s f log t d a k m
-unfolding cost inRanges
-found R = blocks-ready (R .framed) _ _ _ _ (R .ranged) (R .masks) (R .triples) (R .room)
+unfolding cost
+found {f = f} {d = d} {a} {k} {m} R = blocks-ready (R .framed) (ranges (f .p) (f .largest) (MOD d a k m) (R .ranged)) (R .masks) (R .triples) (R .room)
 
--- src/masking.rt:27:13
 next-requires : tie.Need-next-requires
-next-requires c κs =
-    let R = c .before .before .pre in
-    let W = within R in
-    (l-most (R .framed), n-most (R .framed), omega (arith, W .mask), omega (arith, W .triple), omega (arith, W .log-place))
+next-requires c κs = next-fits (c .before .before .pre) (omega arith) (omega arith)
 
--- src/masking.rt:36:13
 row-requires : tie.Need-row-requires
-row-requires c κs =
-    let R = c .before .before .before .pre in
-    found R .a-in
+row-requires c κs = found (c .before .before .before .pre) .a-in
 
--- src/masking.rt:40:13
 mul-remainder : tie.Need-mul-remainder
 mul-remainder c = search needs
 
--- src/masking.rt:40:13
 sub-remainder : tie.Need-sub-remainder
 sub-remainder c = search needs
 
--- src/masking.rt:40:13
 part-remainder-start : tie.Need-part-remainder-start
 part-remainder-start c = search needs
 
--- src/masking.rt:40:13
 part-remainder-end : tie.Need-part-remainder-end
 part-remainder-end c = search needs
 
--- src/masking.rt:29:13
 remainder-requires : tie.Need-remainder-requires
 remainder-requires c κs =
-    let s = c .before .before .before .before .before in
-    let R = s .pre in
-    let e = c .before .before .next .ensures in
-    let M = found R in (
-      field-of (R .framed) .modulus-is,
-      n-most (R .framed),
-      t-most (R .framed),
-      M .m-least,
-      M .m-most,
-      M .k-most,
-      M .power,
-      M .m-within,
-      l-most (R .framed),
-      rw (e .0) (M .mask-room),
-      rw (e .1) (M .triple-room),
-      simp (length-take, length-drop) (omega (arith, M .log-room, e .2)),
-    )
+    let R = c .before .before .before .before .before .pre in
+    let F = R .framed in
+    let M = found R in
+    let N = c .before .before .next .ensures in
+    (field-of F .modulus-is, n-most F, t-most F, M .m-least, M .m-most, M .k-most, M .power, M .m-within, l-most F, mask-room M N, triple-room M N, part-room M N (now (c .before .before .before .before .before .args .log)) refl)
 
--- src/masking.rt:42:9
 put-requires : tie.Need-put-requires
-put-requires c κs =
-    let R = c .before .before .before .before .before .before .before .before .pre in
-    found R .d-in
+put-requires c κs = found (c .before .before .before .before .before .before .before .before .pre) .d-in
 
--- src/masking.rt:14:5
 same-length : tie.Need-same-length
 same-length c = search needs
 
--- src/masking.rt:14:5
 returns : tie.Need-returns
 unfolding finish perform cost
 returns c shown =
     let s = c .before .before .before .before .before .before .before .before .before in
     let a = s .args in
-    let R = s .pre in
-    let F = R .framed in
-    let M = found R in
-    let S = settingIn (a .f) in
-    let o = a .f .l + 2 * a .m - 2 in
-    let n = c .before .before .before .before .before .before .next .ensures in
-    let z = c .before .before .before .remainder .result .shares in
-    let l : length z ≡ 7 = search (needs, c .before .before .before .remainder .ok) in
-    performs-put (MOD (a .d) (a .a) (a .k) (a .m)) (a .d) 0 1 o (1 + 2 * o) (a .a ∷ []) z (λ x. remainder S (a .k) (a .m) (register x (a .a)) (x .deal)) refl (λ x. refl)
-    (M .d-in) (n-most F) l (c .put .ensures) (λ log₀ shown₀ x H.
-    let e = c .before .before .before .before .before .row .ensures ∙ register-is H (a .a) (M .a-in) in
-    step-left H
-    (c .before .before .before .remainder .ensures (a .f .triples - a .self .spent .triples) (x .deal) (next-mask H (M .masks) (n .0))
-    (next-triples H (omega (arith, M .triples)) (n .1)) (omega (arith, M .triples, M .m-least)))
-    (took-remainder S (n-most F) (a .k) (a .m) (register x (a .a)) (x .deal) (mask-length H (M .masks)) (M .m-least) (M .m-within)) (n .2) (M .room)
-    (ap (λ (y : Row). remainder S (a .k) (a .m) y (x .deal)) e))
+    let F = s .pre .framed in
+    let M = found (s .pre) in
+    let call = c .before .before .before .remainder in
+    let seven : length (call .result .shares) ≡ 7 = search (needs, call .ok) in
+    masked-performs (MOD (a .d) (a .a) (a .k) (a .m)) (remainder (settingIn (a .f)) (a .k) (a .m)) F M refl (λ x. refl)
+    (λ w e h. took-remainder (settingIn (a .f)) (n-most F) (a .k) (a .m) w e h (M .m-least) (M .m-within)) (c .before .before .before .before .before .before .next .ensures) (c .before .before .before .before .before .row .ensures) (call .ensures) seven
+    (c .put .ensures)
 
 pub remainder-spec : {M : Type 1} → statement M
 remainder-spec =

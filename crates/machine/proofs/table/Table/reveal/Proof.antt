@@ -1,70 +1,50 @@
-use mathlib.Core.Path.{_≡_, refl, sym, ap, _∙_}
-use Prim.Native.Nat.{ℕ, _+_, _-_, _*_, _≤_}
+-- `Table::reveal` meets its contract: one opening, and one value.
+-- Assumes nothing.
+use mathlib.Core.Path.{_≡_, refl}
 use native.Mathlib.Omega.{arith}
-use denote.Ref.{now}
-use lib.ListN.{length, take, drop, length-take, length-drop}
-use Rattle.machine.proofs.Places.{n-most, t-most, l-most, field-of}
-use Rattle.machine.proofs.Readiness.{within, reveal-ready, revealed-holds}
+use lib.ListN.{length, length-take, length-drop}
 use borrow.Author.Needs.{needs}
+use Rattle.machine.proofs.Places.{n-most, t-most, field-of}
+use Rattle.machine.proofs.Readiness.{next-fits, reveal-ready, revealed-holds}
 use Rattle.machine.proofs.table.Table.reveal.Statement.{statement}
 use Rattle.machine.proofs.table.Table.reveal.Tie as tie
-use Rattle.machine.proofs.table.Table.reveal.Reads as reads
-use Rattle.machine.proofs.table.Table.reveal.Lts as lts
-use Rattle.machine.proofs.table.Table.next.Reads as next-reads
-use Rattle.machine.proofs.table.Table.row.Reads as row-reads
-use Rattle.steps.proofs.product.open_row.Reads as open-row-reads
 
--- src/opening.rt:84:13
 next-requires : tie.Need-next-requires
-next-requires c κs =
-    let R = c .before .before .before .pre .0 in
-    let W = within R in
-    (l-most (R .framed), n-most (R .framed), omega (arith, W .mask), omega (arith, W .triple), omega (arith, W .log-place))
+next-requires c κs = next-fits (c .before .before .before .pre .0) (omega arith) (omega arith)
 
--- src/opening.rt:87:60
 row-requires : tie.Need-row-requires
 row-requires c κs = reveal-ready (c .before .before .before .before .pre .0) .a-in
 
--- src/opening.rt:87:73
 mul-open-row : tie.Need-mul-open-row
 mul-open-row c = search needs
 
--- src/opening.rt:87:73
 sub-open-row : tie.Need-sub-open-row
 sub-open-row c = search needs
 
--- src/opening.rt:87:73
 part-open-row-start : tie.Need-part-open-row-start
 part-open-row-start c = search needs
 
--- src/opening.rt:87:73
 part-open-row-end : tie.Need-part-open-row-end
 part-open-row-end c = search needs
 
--- src/opening.rt:87:27
 open-row-requires : tie.Need-open-row-requires
 open-row-requires c κs =
     let R = c .before .before .before .before .before .before .pre .0 in
     let e = c .before .before .next .ensures in
     (field-of (R .framed) .modulus-is, n-most (R .framed), t-most (R .framed), simp (length-take, length-drop) (omega (arith, reveal-ready R .log-room, e .2)))
 
--- src/opening.rt:87:9
 mul-revealed : tie.Need-mul-revealed
 mul-revealed c = search needs
 
--- src/opening.rt:87:9
 slice-write-revealed : tie.Need-slice-write-revealed
 slice-write-revealed c = search needs
 
--- src/opening.rt:73:5
 same-length : tie.Need-same-length
 same-length c = search needs
 
--- src/opening.rt:73:5
 same-length-2 : tie.Need-same-length-2
 same-length-2 c = search needs
 
--- src/opening.rt:73:5
 returns : tie.Need-returns
 returns c =
     let s = c .before .before .before .before .before .before .before .before .before in

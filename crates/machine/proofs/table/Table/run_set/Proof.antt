@@ -1,14 +1,14 @@
-use borrow.Author.Needs.{needs}
+-- `Table::run_set` meets its contract: the marks of a run of registers, one after the other.
+-- Assumes nothing.
 use mathlib.Core.Path.{_≡_, _∙_}
 use Prim.Native.Nat.{_-_, _≤_}
 use native.Mathlib.Omega.{arith}
+use borrow.Author.Needs.{needs}
 use Rattle.algebra.specs.Lists.{from}
 use Rattle.model.specs.Run.{allSet}
 use Rattle.machine.proofs.Marks.{rest, rest-start, rest-more, rest-unset, rest-end}
 use Rattle.machine.proofs.table.Table.run_set.Statement.{statement}
 use Rattle.machine.proofs.table.Table.run_set.Tie as tie
-use Rattle.machine.proofs.table.Table.run_set.Reads as reads
-use Rattle.machine.proofs.table.Table.run_set.Lts as lts
 
 abbrev Inv-loop : tie.InvT-loop
 Inv-loop b w self i₀ i = (i ≤ w) × (rest (self .marks) b w i ≡ allSet (self .marks) (from b w))
@@ -16,39 +16,31 @@ Inv-loop b w self i₀ i = (i ≤ w) × (rest (self .marks) b w i ≡ allSet (se
 abbrev μ-loop : tie.MeasureT-loop
 μ-loop b w self i₀ i = w - i
 
--- src/check.rt:40:9
 loop-holds : tie.Need-loop-holds Inv-loop μ-loop
 loop-holds c = (omega arith, rest-start _ _ _)
 
--- src/check.rt:41:27
 add-if1 : tie.Need-add-if1 Inv-loop μ-loop
 add-if1 c = search needs
 
--- src/check.rt:41:16
 element-copy-out-if1 : tie.Need-element-copy-out-if1 Inv-loop μ-loop
 element-copy-out-if1 c = search needs
 
--- src/check.rt:42:17
 add-i : tie.Need-add-i Inv-loop μ-loop
 add-i c = search needs
 
--- src/check.rt:40:9
 loop-less : tie.Need-loop-less Inv-loop μ-loop
 loop-less c = search needs
 
--- src/check.rt:40:9
 loop-again : tie.Need-loop-again Inv-loop μ-loop
 loop-again c =
     let l = c .before .before .before .loop in
     (omega arith, rest-more _ _ _ (l .i) (omega arith) (c .if1 .taken) ∙ l .inv .1)
 
--- src/check.rt:44:17
 returns : tie.Need-returns Inv-loop μ-loop
 returns c =
     let l = c .before .before .before .loop in
     rest-unset _ _ _ (l .i) (omega arith) (c .if1 .left) ∙ l .inv .1
 
--- src/check.rt:35:5
 returns-2 : tie.Need-returns-2 Inv-loop μ-loop
 returns-2 c = rest-end _ _ _ (c .before .loop .i) (omega arith) ∙ c .before .loop .inv .1
 

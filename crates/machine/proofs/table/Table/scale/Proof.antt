@@ -1,35 +1,27 @@
-use mathlib.Core.Path.{_≡_, refl, sym, ap, _∙_}
-use mathlib.Core.List.{List, [], _∷_}
-use Prim.Native.Nat.{ℕ}
+-- `Table::scale` meets its contract: column by column.
+-- Assumes nothing.
+use mathlib.Core.Path.{_≡_, refl, _∙_}
+use mathlib.Core.List.{[], _∷_}
 use lib.ListN.{length}
+use borrow.Author.Needs.{needs}
 use Rattle.model.specs.Costs.{cost}
 use Rattle.model.specs.Run.{register, made, perform, finish}
 use Rattle.model.specs.Script.{SCALE}
 use Rattle.model.specs.Steps.{times}
 use Rattle.sheet.specs.Framed.{settingIn}
 use Rattle.machine.proofs.Keeping.{performs-put, made-left, register-is}
-use borrow.Author.Needs.{needs}
 use Rattle.machine.proofs.table.Table.scale.Statement.{statement}
 use Rattle.machine.proofs.table.Table.scale.Tie as tie
-use Rattle.machine.proofs.table.Table.scale.Reads as reads
-use Rattle.machine.proofs.table.Table.scale.Lts as lts
-use Rattle.machine.proofs.table.Table.put.Reads as put-reads
-use Rattle.machine.proofs.table.Table.row.Reads as row-reads
-use Rattle.sharing.proofs.rows.scale_row.Reads as scale-row-reads
 
--- src/linear.rt:55:48
 row-requires : tie.Need-row-requires
 row-requires c κs = search needs
 
--- src/linear.rt:55:13
 scale-row-requires : tie.Need-scale-row-requires
 scale-row-requires c κs = search needs
 
--- src/linear.rt:56:9
 put-requires : tie.Need-put-requires
 put-requires c κs = search needs
 
--- src/linear.rt:51:5
 returns : tie.Need-returns
 unfolding finish perform cost times
 returns c s log shown =

@@ -1,28 +1,21 @@
-use denote.Ref.{now}
-use lib.ListN.{length}
-use Rattle.script.specs.Meaning.{meant}
-use mathlib.Core.Path.{_≡_, refl, sym, ap, _∙_}
-use Prim.Native.Nat.{_≤_}
+-- `Table::step` meets its contract: all of the command, or nothing.
+-- Assumes nothing.
+use mathlib.Core.Path.{refl, sym, _∙_}
 use native.Mathlib.Omega.{arith}
+use lib.ListN.{length}
+use denote.Ref.{now}
+use borrow.Author.Needs.{needs}
+use Rattle.script.specs.Meaning.{meant}
 use Rattle.machine.proofs.Places.{n-most, l-most, field-of}
 use Rattle.machine.proofs.Stepping.{few, ready, shows, fits, afforded}
-use borrow.Author.Needs.{needs}
 use Rattle.machine.proofs.table.Table.step.Statement.{statement}
 use Rattle.machine.proofs.table.Table.step.Tie as tie
-use Rattle.machine.proofs.table.Table.step.Reads as reads
-use Rattle.machine.proofs.table.Table.step.Lts as lts
-use Rattle.machine.proofs.cost.cost.Reads as cost-reads
-use Rattle.machine.proofs.table.Table.check.Reads as check-reads
-use Rattle.machine.proofs.table.Table.pay.Reads as pay-reads
-use Rattle.machine.proofs.table.Table.perform.Reads as perform-reads
 
--- src/step.rt:81:13
 cost-requires : tie.Need-cost-requires
 cost-requires c κs =
     let h = c .before .before .before .pre in
     (l-most (h .0), omega (arith, field-of (h .0) .k-most), h .1)
 
--- src/step.rt:82:13
 check-requires : tie.Need-check-requires
 check-requires c κs =
     let s = c .before .before .before .before in
@@ -31,12 +24,10 @@ check-requires c κs =
     let f = s .args .f in
     (h .2, rw e (few (f .p) (f .largest) (f .l) (l-most (h .0)) (omega (arith, field-of (h .0) .k-most)) _ (h .1)), n-most (h .0), e, h .1)
 
--- src/step.rt:84:13
 returns : tie.Need-returns
 returns c =
     (c .before .check .ensures, λ z. absurd (c .if1 .taken z), λ _. (refl, refl, refl))
 
--- src/step.rt:89:13
 perform-requires : tie.Need-perform-requires
 perform-requires c κs =
     let s = c .before .before .before .before .before .before .before .before in
@@ -44,7 +35,6 @@ perform-requires c κs =
     let e = sym (c .before .before .before .check .ensures) ∙ c .before .before .if1 .left in
     (ready (h .0) _ _ (s .args .self) _ e (h .1), shows (h .0) _ _ (s .args .self) _ e)
 
--- src/step.rt:90:13
 pay-requires : tie.Need-pay-requires
 pay-requires c κs =
     let s = c .before .before .before .before .before .before .before .before .before .before .before .before .before in
@@ -53,15 +43,12 @@ pay-requires c κs =
     fits (h .0) (length (now (s .args .log))) (length (now (s .args .revealed))) (s .args .self) (meant (s .args .c)) e (c .before .before .before .before .perform .result)
     (c .before .before .before .before .perform .ensures .0) (c .before .before .before .before .before .before .before .before .before .cost .ensures) (omega arith) (omega arith)
 
--- src/step.rt:70:5
 same-length : tie.Need-same-length
 same-length c = search needs
 
--- src/step.rt:70:5
 same-length-2 : tie.Need-same-length-2
 same-length-2 c = search needs
 
--- src/step.rt:70:5
 returns-2 : tie.Need-returns-2
 returns-2 c =
     let s = c .before .before .before .before .before .before .before .before .before .before .before .before .before .before in

@@ -1,39 +1,30 @@
-use mathlib.Core.Path.{_≡_, refl, sym, ap, _∙_}
-use mathlib.Core.List.{List, [], _∷_}
-use Prim.Native.Nat.{ℕ}
+-- `Table::sub` meets its contract: column by column.
+-- Assumes nothing.
+use mathlib.Core.Path.{_≡_, refl, _∙_}
+use mathlib.Core.List.{[], _∷_}
 use lib.ListN.{length}
+use borrow.Author.Needs.{needs}
 use Rattle.model.specs.Costs.{cost}
 use Rattle.model.specs.Run.{register, made, perform, finish}
 use Rattle.model.specs.Script.{SUB}
 use Rattle.model.specs.Steps.{minus}
 use Rattle.sheet.specs.Framed.{settingIn}
 use Rattle.machine.proofs.Keeping.{performs-put, made-left, register-is}
-use borrow.Author.Needs.{needs}
 use Rattle.machine.proofs.table.Table.sub.Statement.{statement}
 use Rattle.machine.proofs.table.Table.sub.Tie as tie
-use Rattle.machine.proofs.table.Table.sub.Reads as reads
-use Rattle.machine.proofs.table.Table.sub.Lts as lts
-use Rattle.machine.proofs.table.Table.put.Reads as put-reads
-use Rattle.machine.proofs.table.Table.row.Reads as row-reads
-use Rattle.sharing.proofs.rows.sub_rows.Reads as sub-rows-reads
 
--- src/linear.rt:46:44
 row-requires : tie.Need-row-requires
 row-requires c κs = search needs
 
--- src/linear.rt:46:57
 row-requires-2 : tie.Need-row-requires-2
 row-requires-2 c κs = search needs
 
--- src/linear.rt:46:13
 sub-rows-requires : tie.Need-sub-rows-requires
 sub-rows-requires c κs = search needs
 
--- src/linear.rt:47:9
 put-requires : tie.Need-put-requires
 put-requires c κs = search needs
 
--- src/linear.rt:42:5
 returns : tie.Need-returns
 unfolding finish perform cost minus
 returns c s log shown =

@@ -1,0 +1,67 @@
+-- `lent::put_cells` meets its contract. The loop's invariant: the first j cells stand over the start of the lent list.
+-- Assumes nothing.
+use Prim.Native.Nat.{_-_}
+use Rattle.jundrethol.proofs.Fitting.{Lending, lending-start, lending-more, lending-length, lending-end}
+use borrow.Author.Needs.{needs}
+use lib.ListN.{length}
+use mathlib.Core.Path.{_≡_, refl}
+use native.Mathlib.Omega.{arith}
+use Rattle.jundrethol.proofs.lent.put_cells.Statement.{statement}
+use Rattle.jundrethol.proofs.lent.put_cells.Tie as tie
+
+abbrev Inv-loop : tie.InvT-loop
+Inv-loop part₀ table count j₀ part j = Lending (table .cells) part₀ count j part
+
+abbrev μ-loop : tie.MeasureT-loop
+μ-loop part₀ table count j₀ part j = count - j
+
+least-requires : tie.Need-least-requires Inv-loop μ-loop
+least-requires c κs = search needs
+
+loop-holds : tie.Need-loop-holds Inv-loop μ-loop
+loop-holds c = lending-start _ _ _ 448 (search needs) (c .least .ensures)
+
+mul-part : tie.Need-mul-part Inv-loop μ-loop
+mul-part c = search needs
+
+element-copy-out-part : tie.Need-element-copy-out-part Inv-loop μ-loop
+element-copy-out-part c = search needs
+
+mul-part-2 : tie.Need-mul-part-2 Inv-loop μ-loop
+mul-part-2 c = search needs
+
+slice-write-part : tie.Need-slice-write-part Inv-loop μ-loop
+slice-write-part c = let L = c .before .before .loop .inv in omega (arith, lending-length L, L .places)
+
+add-j : tie.Need-add-j Inv-loop μ-loop
+add-j c = search needs
+
+loop-less : tie.Need-loop-less Inv-loop μ-loop
+loop-less c = search needs
+
+loop-again : tie.Need-loop-again Inv-loop μ-loop
+loop-again c = lending-more (c .before .before .loop .inv) (omega arith) refl
+
+same-length : tie.Need-same-length Inv-loop μ-loop
+same-length c = lending-length (c .before .loop .inv)
+
+returns : tie.Need-returns Inv-loop μ-loop
+returns c = lending-end (c .before .loop .inv) (omega arith)
+
+pub put-cells-spec : {M : Type 1} → statement M
+put-cells-spec =
+    tie.close
+    (tie.spec
+    Inv-loop
+    μ-loop
+    least-requires
+    loop-holds
+    mul-part
+    element-copy-out-part
+    mul-part-2
+    slice-write-part
+    add-j
+    loop-less
+    loop-again
+    same-length
+    returns)

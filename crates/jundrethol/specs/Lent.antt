@@ -1,0 +1,38 @@
+-- What the C ABI leaves in lists that C lends: the paper gives registers, marks and counts no lent list, so what a short one takes is said here.
+-- Assumes nothing.
+use mathlib.Core.Path.{_≡_}
+use mathlib.Core.Bool.{Bool, cond}
+use mathlib.Core.List.{List, [], _∷_, _++_}
+use Prim.Native.Nat.{ℕ}
+use lib.ListN.{length, take}
+use Rattle.algebra.specs.Lists.{over}
+use Rattle.model.specs.Steps.{Row}
+use Rattle.model.specs.Run.{Outcome}
+
+-- as many of vs as the lent list xs has places for, from its start on; past them it is unchanged
+unfoldable pub lent : List ℕ → List ℕ → List ℕ
+lent vs xs = over (take (length xs) vs) xs
+
+-- rows one after the other
+unfoldable pub joined : List Row → List ℕ
+joined [] = []
+joined (x ∷ xs) = x ++ joined xs
+
+-- the mark of a set register is 1, of an unset one 0
+unfoldable pub flags : List Bool → List ℕ
+flags [] = []
+flags (x ∷ xs) = cond x 1 0 ∷ flags xs
+
+-- place, inputs, masks, triples, openings
+abbrev pub counted : Outcome → List ℕ
+counted o = o .place ∷ o .inputs ∷ o .masks ∷ o .triples ∷ o .openings ∷ []
+
+-- The outcome o as C gets it: the number; record and revealed list to their last number; and in three lent lists, of which the first of each
+-- pair is what stood there before the call, registers, marks and counts.
+pub record Handed (o : Outcome) (n : ℕ) (log₁ shown₁ cells₀ cells₁ marks₀ marks₁ counts₀ counts₁ : List ℕ) : Type 0 where
+  pub number : n ≡ o .number
+  pub log : log₁ ≡ o .log
+  pub revealed : shown₁ ≡ o .revealed
+  pub registers : cells₁ ≡ lent (joined (o .registers)) cells₀
+  pub marks : marks₁ ≡ lent (flags (o .marks)) marks₀
+  pub counts : counts₁ ≡ lent (counted o) counts₀

@@ -1,0 +1,81 @@
+// The library for C, as include/jundrethol.h declares it. A slice is a pointer and a length to C. Nothing is asked of the numbers or of the
+// lengths: a C compiler proves no `requires`.
+mod lent;
+
+ghost use mathlib.Core.Path.{_≡_};
+ghost use Rattle.model.specs.Entries.{shareNumber, shareLeft, recoverNumber, recoverValue, recoverLeft, encodeNumber, encodeValue, decodeNumber, decodeValue};
+ghost use Rattle.model.specs.Run as Run;
+ghost use Rattle.jundrethol.specs.Lent.{Handed};
+use machine::run;
+
+// Runs a sheet. Opened shares go to the log, the header's record. Registers, marks and counts go to lists of any length.
+#[no_mangle]
+pub extern "C" fn jundrethol_run(
+    sheet: &[u8],
+    log: &mut [u32],
+    revealed: &mut [u32],
+    registers: &mut [u32],
+    marks: &mut [u8],
+    counts: &mut [u64],
+) -> u32
+    ensures { λ r. ⌜ Handed (Run.run (now (sheet .entry)) (now (log .entry)) (now (revealed .entry))) r (now (log .exit)) (now (revealed .exit)) (now (registers .entry)) (now (registers .exit)) (now (marks .entry)) (now (marks .exit)) (now (counts .entry)) (now (counts .exit)) ⌝ }
+{
+    let answer = run::run(sheet, log, revealed);
+    let table = answer.table;
+    lent::put_cells(registers, table);
+    lent::put_marks(marks, table);
+    lent::put_counts(counts, answer);
+    answer.number
+}
+
+// Numbers before slices in the order below: a slice's pointer and length both go in registers or both on the stack, so that it does not
+// matter whether a C compiler takes them as two parameters or as one of two words.
+
+#[no_mangle]
+pub extern "C" fn jundrethol_share(
+    field: u32,
+    n: u32,
+    t: u32,
+    secret: u32,
+    coefficients: &[u32],
+    shares: &mut [u32],
+) -> u32
+    ensures { λ r. ⌜ (r ≡ shareNumber field n t secret (now (coefficients .entry)) (now (shares .entry))) × (now (shares .exit) ≡ shareLeft field n t secret (now (coefficients .entry)) (now (shares .entry))) ⌝ }
+{
+    sharing::share(field, n, t, secret, coefficients, shares)
+}
+
+#[no_mangle]
+pub extern "C" fn jundrethol_recover(
+    field: u32,
+    n: u32,
+    t: u32,
+    secret: &mut u32,
+    row: &[u32],
+    coefficients: &mut [u32],
+) -> u32
+    ensures { λ r. ⌜ (r ≡ recoverNumber field n t (now (row .entry)) (now (coefficients .entry))) × (now (secret .exit) ≡ recoverValue field n t (now (row .entry)) (now (coefficients .entry))) × (now (coefficients .exit) ≡ recoverLeft field n t (now (row .entry)) (now (coefficients .entry))) ⌝ }
+{
+    let answer = sharing::recover(field, n, t, row, coefficients);
+    *secret = answer.value;
+    answer.number
+}
+
+#[no_mangle]
+pub extern "C" fn jundrethol_encode(field: u32, k: u32, a: i64, value: &mut u32) -> u32
+    ensures { λ r. ⌜ (r ≡ encodeNumber field k a) × (now (value .exit) ≡ encodeValue field k a) ⌝ }
+{
+    let answer = field::encode(field, k, a);
+    *value = answer.value;
+    answer.number
+}
+
+#[no_mangle]
+pub extern "C" fn jundrethol_decode(field: u32, v: u32, a: &mut i64) -> u32
+    ensures { λ r. ⌜ (r ≡ decodeNumber field v) × (now (a .exit) ≡ decodeValue field v) ⌝ }
+{
+    let answer = field::decode(field, v);
+    let value = answer.value;
+    *a = value;
+    answer.number
+}

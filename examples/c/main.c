@@ -1,0 +1,105 @@
+/* The paper's MUL sheet run through the C ABI, and a secret shared, recovered, encoded and decoded. Exits with 1 if an answer is wrong. */
+#include <inttypes.h>
+#include <stdio.h>
+#include <stdlib.h>
+
+#include "jundrethol.h"
+
+#define COUNT(list) (sizeof(list) / sizeof((list)[0]))
+
+static void expect(int holds, const char *what)
+{
+    if (!holds) {
+        fprintf(stderr, "wrong: %s\n", what);
+        exit(1);
+    }
+}
+
+/* Shares of four bytes, the lowest first. */
+static size_t put_shares(uint8_t *sheet, size_t at, const uint32_t *shares, size_t count)
+{
+    for (size_t i = 0; i < 4 * count; i++)
+        sheet[at + i] = (uint8_t)(shares[i / 4] >> 8 * (i % 4));
+    return at + 4 * count;
+}
+
+/* Header, script, two input rows and a triple's three. */
+static size_t make_sheet(uint8_t *sheet)
+{
+    static const uint8_t front[] = {
+        0, 3, 1, 2, 0, 0, 0, 1, 0, 11, 0,              /* field 0, n 3, t 1; 2 inputs, 0 masks, 1 triple, a script of 11 bytes */
+        0x01, 0, 0x01, 1, 0x06, 2, 0, 1, 0x0C, 2, 0x00 /* LOAD 0, LOAD 1, MUL 2 0 1, REVEAL 2, END */
+    };
+    static const uint32_t rows[] = {7, 9, 11, 7, 11, 2, 2, 3, 4, 5, 8, 11, 7, 12, 4};
+    for (size_t i = 0; i < COUNT(front); i++)
+        sheet[i] = front[i];
+    return put_shares(sheet, COUNT(front), rows, COUNT(rows));
+}
+
+static void print_run(const uint32_t *record, const uint32_t *revealed, const uint64_t *counts, uint32_t number)
+{
+    for (uint64_t i = 0; i < counts[JUNDRETHOL_OPENINGS]; i++)
+        printf("opened %" PRIu32 " %" PRIu32 " %" PRIu32 "\n", record[3 * i], record[3 * i + 1], record[3 * i + 2]);
+    for (size_t i = 0; i < JUNDRETHOL_REVEALED && revealed[i] != UINT32_MAX; i++) {
+        int64_t reading = 0;
+        expect(jundrethol_decode(0, revealed[i], &reading) == 0, "a revealed value is a field value");
+        printf("revealed %" PRIu32 " signed %" PRId64 "\n", revealed[i], reading);
+    }
+    printf("end %" PRIu32 " at %" PRIu64 " inputs %" PRIu64 " masks %" PRIu64 " triples %" PRIu64 " openings %" PRIu64 "\n", number,
+           counts[JUNDRETHOL_PLACE], counts[JUNDRETHOL_INPUTS], counts[JUNDRETHOL_MASKS], counts[JUNDRETHOL_TRIPLES],
+           counts[JUNDRETHOL_OPENINGS]);
+}
+
+static void run_sheet(void)
+{
+    static uint8_t sheet[128];
+    static uint32_t record[JUNDRETHOL_RECORD], revealed[JUNDRETHOL_REVEALED], registers[JUNDRETHOL_REGISTERS];
+    static uint8_t marks[JUNDRETHOL_MARKS];
+    static uint64_t counts[JUNDRETHOL_COUNTS];
+    for (size_t i = 0; i < COUNT(revealed); i++)
+        revealed[i] = UINT32_MAX;
+    size_t length = make_sheet(sheet);
+    uint32_t number = jundrethol_run(sheet, length, record, COUNT(record), revealed, COUNT(revealed), registers, COUNT(registers), marks,
+                                     COUNT(marks), counts, COUNT(counts));
+    print_run(record, revealed, counts, number);
+    expect(number == 0 && revealed[0] == 2, "5 times 3 is 2 modulo 13");
+    expect(registers[14] == 7 && registers[15] == 12 && registers[16] == 4 && registers[17] == 0, "register 2 shares the product");
+    expect(marks[2] == 1 && marks[3] == 0, "three registers are set");
+    /* A byte too few is a wrong length; of lists that are too short the rest stays. */
+    registers[0] = 99;
+    counts[1] = 99;
+    number = jundrethol_run(sheet, length - 1, record, COUNT(record), revealed, COUNT(revealed), registers, 0, marks, 0, counts, 1);
+    expect(number == 4 && registers[0] == 99 && counts[0] == 0 && counts[1] == 99 && record[0] == 5, "a cut sheet is refused by 4");
+}
+
+static void share_and_recover(void)
+{
+    const uint32_t coefficients[1] = {2};
+    uint32_t shares[3] = {0}, found[1] = {0}, secret = 0;
+    expect(jundrethol_share(0, 3, 1, 5, coefficients, 1, shares, 3) == 0, "5 is shared");
+    printf("shares %" PRIu32 " %" PRIu32 " %" PRIu32 "\n", shares[0], shares[1], shares[2]);
+    expect(jundrethol_recover(0, 3, 1, &secret, shares, 3, found, 1) == 0, "the row is a sharing");
+    printf("secret %" PRIu32 " coefficient %" PRIu32 "\n", secret, found[0]);
+    expect(secret == 5 && found[0] == 2, "recovery undoes sharing");
+    shares[2] = 12;
+    expect(jundrethol_recover(0, 3, 1, &secret, shares, 3, found, 1) == 6 && secret == 0, "7 9 12 is no sharing");
+}
+
+static void encode_and_decode(void)
+{
+    uint32_t value = 0;
+    int64_t number = 0;
+    expect(jundrethol_encode(0, 3, -4, &value) == 0, "-4 has 3 bits");
+    expect(jundrethol_decode(0, value, &number) == 0, "a coded number is a field value");
+    printf("coded %" PRIu32 " signed %" PRId64 "\n", value, number);
+    expect(value == 9 && number == -4, "reading undoes coding");
+    expect(jundrethol_encode(0, 3, 4, &value) == 11 && value == 0, "4 has more than 3 bits");
+}
+
+int main(void)
+{
+    run_sheet();
+    share_and_recover();
+    encode_and_decode();
+    return 0;
+}

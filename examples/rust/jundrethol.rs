@@ -1,0 +1,103 @@
+//! The archive's functions in safe Rust. include/jundrethol.h says what each takes and answers. What it asks of pointers holds for slices
+//! and references, so nothing is tested here.
+
+mod c {
+    extern "C" {
+        pub fn jundrethol_run(
+            sheet: *const u8,
+            sheet_length: usize,
+            record: *mut u32,
+            record_length: usize,
+            revealed: *mut u32,
+            revealed_length: usize,
+            registers: *mut u32,
+            registers_length: usize,
+            marks: *mut u8,
+            marks_length: usize,
+            counts: *mut u64,
+            counts_length: usize,
+        ) -> u32;
+
+        pub fn jundrethol_share(
+            field: u32,
+            n: u32,
+            t: u32,
+            secret: u32,
+            coefficients: *const u32,
+            coefficients_length: usize,
+            shares: *mut u32,
+            shares_length: usize,
+        ) -> u32;
+
+        pub fn jundrethol_recover(
+            field: u32,
+            n: u32,
+            t: u32,
+            secret: *mut u32,
+            row: *const u32,
+            row_length: usize,
+            coefficients: *mut u32,
+            coefficients_length: usize,
+        ) -> u32;
+
+        pub fn jundrethol_encode(field: u32, k: u32, number: i64, value: *mut u32) -> u32;
+
+        pub fn jundrethol_decode(field: u32, value: u32, number: *mut i64) -> u32;
+    }
+}
+
+/// The paper's number; register r's cells from 7r on; 1 for each register that is set; place, inputs, masks, triples, openings.
+pub struct Ran {
+    pub number: u32,
+    pub registers: [u32; 448],
+    pub marks: [u8; 64],
+    pub counts: [u64; 5],
+}
+
+pub fn run(sheet: &[u8], record: &mut [u32], revealed: &mut [u32]) -> Ran {
+    let mut ran = Ran { number: 0, registers: [0; 448], marks: [0; 64], counts: [0; 5] };
+    ran.number = unsafe {
+        c::jundrethol_run(
+            sheet.as_ptr(),
+            sheet.len(),
+            record.as_mut_ptr(),
+            record.len(),
+            revealed.as_mut_ptr(),
+            revealed.len(),
+            ran.registers.as_mut_ptr(),
+            ran.registers.len(),
+            ran.marks.as_mut_ptr(),
+            ran.marks.len(),
+            ran.counts.as_mut_ptr(),
+            ran.counts.len(),
+        )
+    };
+    ran
+}
+
+/// A refusal's number is the error.
+fn answer<T>(number: u32, value: T) -> Result<T, u32> {
+    if number == 0 { Ok(value) } else { Err(number) }
+}
+
+pub fn share(field: u32, n: u32, t: u32, secret: u32, coefficients: &[u32], shares: &mut [u32]) -> Result<(), u32> {
+    let (from, to) = (coefficients.as_ptr(), shares.as_mut_ptr());
+    answer(unsafe { c::jundrethol_share(field, n, t, secret, from, coefficients.len(), to, shares.len()) }, ())
+}
+
+pub fn recover(field: u32, n: u32, t: u32, row: &[u32], coefficients: &mut [u32]) -> Result<u32, u32> {
+    let mut secret = 0;
+    let (from, to) = (row.as_ptr(), coefficients.as_mut_ptr());
+    let number = unsafe { c::jundrethol_recover(field, n, t, &mut secret, from, row.len(), to, coefficients.len()) };
+    answer(number, secret)
+}
+
+pub fn encode(field: u32, k: u32, number: i64) -> Result<u32, u32> {
+    let mut value = 0;
+    answer(unsafe { c::jundrethol_encode(field, k, number, &mut value) }, value)
+}
+
+pub fn decode(field: u32, value: u32) -> Result<i64, u32> {
+    let mut number = 0;
+    answer(unsafe { c::jundrethol_decode(field, value, &mut number) }, number)
+}

@@ -1,0 +1,70 @@
+//! The paper's MUL sheet run through the C ABI, and a secret shared, recovered, encoded and decoded. Exits with 1 if an answer is wrong.
+mod jundrethol;
+
+use std::process::exit;
+
+fn expect(holds: bool, what: &str) {
+    if !holds {
+        eprintln!("wrong: {what}");
+        exit(1);
+    }
+}
+
+/// Header, script, two input rows and a triple's three.
+fn make_sheet() -> Vec<u8> {
+    // field 0, n 3, t 1; 2 inputs, 0 masks, 1 triple, a script of 11 bytes
+    let mut sheet = vec![0, 3, 1, 2, 0, 0, 0, 1, 0, 11, 0];
+    // LOAD 0, LOAD 1, MUL 2 0 1, REVEAL 2, END
+    sheet.extend([0x01, 0, 0x01, 1, 0x06, 2, 0, 1, 0x0C, 2, 0x00]);
+    for share in [7u32, 9, 11, 7, 11, 2, 2, 3, 4, 5, 8, 11, 7, 12, 4] {
+        sheet.extend(share.to_le_bytes());
+    }
+    sheet
+}
+
+fn run_sheet() {
+    let sheet = make_sheet();
+    let mut record = vec![0; 10850];
+    // No value reaches u32::MAX: it shows where the revealed values end.
+    let mut revealed = vec![u32::MAX; 511];
+    let ran = jundrethol::run(&sheet, &mut record, &mut revealed);
+    let [place, inputs, masks, triples, openings] = ran.counts;
+    for shares in record.chunks(3).take(openings as usize) {
+        println!("opened {} {} {}", shares[0], shares[1], shares[2]);
+    }
+    for value in revealed.iter().take_while(|value| **value != u32::MAX) {
+        let signed = jundrethol::decode(0, *value).expect("a revealed value is a field value");
+        println!("revealed {value} signed {signed}");
+    }
+    println!("end {} at {place} inputs {inputs} masks {masks} triples {triples} openings {openings}", ran.number);
+    expect(ran.number == 0 && revealed[0] == 2, "5 times 3 is 2 modulo 13");
+    expect(ran.registers[14..18] == [7, 12, 4, 0], "register 2 shares the product");
+    expect(ran.marks[2] == 1 && ran.marks[3] == 0, "three registers are set");
+    let cut = jundrethol::run(&sheet[..sheet.len() - 1], &mut record, &mut revealed);
+    expect(cut.number == 4 && cut.counts == [0; 5] && record[0] == 5, "a cut sheet is refused by 4");
+}
+
+fn share_and_recover() {
+    let mut shares = [0; 3];
+    expect(jundrethol::share(0, 3, 1, 5, &[2], &mut shares) == Ok(()), "5 is shared");
+    println!("shares {} {} {}", shares[0], shares[1], shares[2]);
+    let mut found = [0; 1];
+    let secret = jundrethol::recover(0, 3, 1, &shares, &mut found).expect("the row is a sharing");
+    println!("secret {secret} coefficient {}", found[0]);
+    expect(secret == 5 && found == [2], "recovery undoes sharing");
+    expect(jundrethol::recover(0, 3, 1, &[7, 9, 12], &mut found) == Err(6), "7 9 12 is no sharing");
+}
+
+fn encode_and_decode() {
+    let value = jundrethol::encode(0, 3, -4).expect("-4 has 3 bits");
+    let number = jundrethol::decode(0, value).expect("a coded number is a field value");
+    println!("coded {value} signed {number}");
+    expect(value == 9 && number == -4, "reading undoes coding");
+    expect(jundrethol::encode(0, 3, 4) == Err(11), "4 has more than 3 bits");
+}
+
+fn main() {
+    run_sheet();
+    share_and_recover();
+    encode_and_decode();
+}

@@ -1,0 +1,164 @@
+//! The sheets of examples/sheets. Three parties, threshold 1; each has a deal of its own.
+
+use super::draft::Draft;
+use super::{bench, mixed};
+use crate::cases::generator::Generator;
+use crate::dealer::Dealer;
+use crate::script::command::Command;
+
+const SEED: u64 = 0x5EED_0005;
+
+pub const NAMES: [&str; 7] = [
+    "mul",
+    "rounding",
+    "test-call-170",
+    "test-call-171",
+    "three-calls",
+    "refused",
+    "no-mask-left",
+];
+
+const CALLS: [u32; 3] = [179, 128, 0];
+
+/// The bytes of the sheet with this name.
+pub fn named(name: &str) -> Option<Vec<u8>> {
+    match name {
+        "mul" => Some(bench::small()),
+        "rounding" => Some(rounding().to_bytes()),
+        "test-call-170" => Some(test_call(170).to_bytes()),
+        "test-call-171" => Some(test_call(171).to_bytes()),
+        "three-calls" => Some(three_calls().to_bytes()),
+        "refused" => Some(refused().to_bytes()),
+        "no-mask-left" => Some(no_mask_left().to_bytes()),
+        _ => None,
+    }
+}
+
+/// -3 by 2 in field 0, with the masks of the paper's figures.
+fn rounding() -> Draft {
+    let (a, k, m) = (0, 3, 1);
+    let commands = [
+        Command::Load { d: a },
+        Command::Trunc { d: 1, a, k, m },
+        Command::Mod { d: 2, a, k, m },
+        Command::Reveal { a: 1 },
+        Command::Reveal { a: 2 },
+    ];
+    let mut generator = Generator::new(mixed(SEED, 0));
+    let mut dealer = Dealer::new(&mut generator, 0, (3, 1));
+    Draft::deal(&mut dealer, &commands, &[10], &[5, 12])
+}
+
+/// Whether a test call ran over 170 seconds.
+fn test_call(seconds: u32) -> Draft {
+    let (d, a, k, v) = (1, 0, 15, 170);
+    let commands = [
+        Command::Load { d: a },
+        Command::Over { d, a, k, v },
+        Command::Reveal { a: d },
+    ];
+    dealt(seconds.into(), &commands, &[seconds], 1)
+}
+
+/// The blocks of three calls and their total.
+fn three_calls() -> Draft {
+    let mut commands: Vec<Command> = (0..3).map(|d| Command::Load { d }).collect();
+    commands.extend((0..3).map(|a| blocks(a + 3, a)));
+    commands.push(Command::Add { d: 6, a: 3, b: 4 });
+    commands.push(Command::Add { d: 6, a: 6, b: 5 });
+    commands.extend((3..7).map(|a| Command::Reveal { a }));
+    dealt(5, &commands, &CALLS, 3)
+}
+
+/// The same sheet with the last two digits of a share exchanged, party 2's of the second call.
+fn refused() -> Draft {
+    let mut draft = three_calls();
+    let share = &mut draft.inputs[1][1];
+    *share = *share / 100 * 100 + *share % 10 * 10 + *share / 10 % 10;
+    draft
+}
+
+/// The blocks of three calls, one call after the other, with a mask for two of them.
+fn no_mask_left() -> Draft {
+    let call = |d| [Command::Load { d }, blocks(d, d), Command::Reveal { a: d }];
+    let commands: Vec<Command> = (0..3).flat_map(call).collect();
+    dealt(4, &commands, &CALLS, 2)
+}
+
+/// Blocks of 64 seconds.
+fn blocks(d: u8, a: u8) -> Command {
+    let (k, m) = (15, 6);
+    Command::Blocks { d, a, k, m }
+}
+
+/// A sheet in field 2 with so many masks and all triples that the commands take.
+fn dealt(index: u64, commands: &[Command], secrets: &[u32], masks: usize) -> Draft {
+    let mut generator = Generator::new(mixed(SEED, index));
+    let mut dealer = Dealer::new(&mut generator, 2, (3, 1));
+    let p = dealer.field.modulus;
+    let masks = dealer.generator.list(masks, p);
+    Draft::deal(&mut dealer, commands, secrets, &masks)
+}
+
+#[cfg(test)]
+mod tests {
+    use super::*;
+    use crate::run_case::Case;
+    use crate::table::values_revealed;
+
+    /// The number, the place, inputs, masks, triples, openings, and the values revealed.
+    type End = (u32, usize, [usize; 4], &'static [u32]);
+
+    const ENDS: [End; 7] = [
+        (0, 10, [2, 0, 1, 3], &[2]),
+        (0, 16, [1, 2, 8, 20], &[11, 1]),
+        (0, 12, [1, 1, 42, 86], &[0]),
+        (0, 12, [1, 1, 42, 86], &[1]),
+        (0, 37, [3, 3, 78, 163], &[2, 2, 0, 4]),
+        (6, 0, [0; 4], &[]),
+        (23, 20, [3, 2, 52, 108], &[2, 2]),
+    ];
+
+    #[test]
+    fn every_name_ends_as_it_should() {
+        for (name, (number, place, counts, revealed)) in NAMES.into_iter().zip(ENDS) {
+            let sheet = named(name).expect(name);
+            let outcome = Case::with_room(sheet).outcome();
+            let answer = outcome.answer;
+            assert_eq!((answer.number, answer.place), (number, place), "{name}");
+            let spent = [answer.inputs, answer.masks, answer.triples, answer.openings];
+            assert_eq!(spent, counts, "{name}");
+            let values = values_revealed(&answer);
+            assert_eq!(&outcome.revealed[..values], revealed, "{name}");
+        }
+        assert_eq!(named("nothing"), None);
+    }
+
+    /// No mask and no triple of a sheet that is run is in another one.
+    #[test]
+    fn no_two_runs_share_a_deal() {
+        let drafts = [
+            test_call(170),
+            test_call(171),
+            three_calls(),
+            no_mask_left(),
+        ];
+        for (i, first) in drafts.iter().enumerate() {
+            for second in &drafts[i + 1..] {
+                assert!(first.masks.iter().all(|x| !second.masks.contains(x)));
+                assert!(first.triples.iter().all(|x| !second.triples.contains(x)));
+            }
+        }
+    }
+
+    #[test]
+    fn the_mistyped_share_is_the_only_difference() {
+        let (right, wrong) = (three_calls().to_bytes(), refused().to_bytes());
+        let places: Vec<usize> = (0..right.len()).filter(|&i| right[i] != wrong[i]).collect();
+        let row = 11 + 38 + 12;
+        assert!(!places.is_empty());
+        assert!(places
+            .iter()
+            .all(|place| (row + 4..row + 8).contains(place)));
+    }
+}
