@@ -1,16 +1,14 @@
 // Runs the cases of standard input through the small entries, and prints each case with its answer. A case is 112 bytes, as
 // reference/src/case.rs has it: 28 words of 4 bytes, little-endian.
-mod print;
-
 ghost use Prim.Native.Nat.{_+_, _≤_};
 ghost use mathlib.Core.Path.{_≡_};
 ghost use lib.ListN.{length};
 use field::coding;
-use print::line_end;
-use print::list;
-use print::number;
-use print::put;
-use print::signed;
+use report::number::line_end;
+use report::number::list;
+use report::number::number;
+use report::number::put;
+use report::number::signed;
 use sharing::rows;
 
 fn main() {

@@ -49,13 +49,12 @@ fn by_blocks(s: &[u8], p: u32, l: usize, n: usize, t: usize, k: u32, mask: usize
     if s.len() - i < times(triples, 12 * n) {
         return;
     }
-    let total = n + times(triples, n + n);
-    if 1225 < total {
+    if 1225 < n + times(triples, n + n) {
         return;
     }
     let mut part = [0u32; 1225];
     let row = blocks_row(s, p, l, n, t, k, m as u32, mask, i, &mut part[..]);
-    answer(s, n, row, &part[..], total);
+    answer(s, n, row, &part[..], 1 + 2 * triples);
 }
 
 fn blocks_row(
@@ -95,13 +94,12 @@ fn by_sign(s: &[u8], p: u32, l: usize, n: usize, t: usize, k: u32, mask: usize, 
     if s.len() - i < times(triples, 12 * n) {
         return;
     }
-    let total = n + times(triples, n + n);
-    if 1225 < total {
+    if 1225 < n + times(triples, n + n) {
         return;
     }
     let mut part = [0u32; 1225];
     let row = sign_row(s, p, l, n, t, k, mask, i, &mut part[..]);
-    answer(s, n, row, &part[..], total);
+    answer(s, n, row, &part[..], 1 + 2 * triples);
 }
 
 fn sign_row(

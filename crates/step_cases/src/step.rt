@@ -76,7 +76,7 @@ fn multiply(s: &[u8], p: u32, n: usize, t: usize, i: usize)
     let right = rows::read_row(s, n, 40 + 4 * n);
     let mut part = [0u32; 14];
     let row = product::product(p, n, t, left, right, s, i, &mut part[..]);
-    answer(s, n, row, &part[..], n + n);
+    answer(s, n, row, &part[..], 2);
 }
 
 // BITLT of v against w operands.
@@ -93,19 +93,18 @@ fn compare(s: &[u8], p: u32, n: usize, t: usize, i: usize)
     if s.len() - i < times(w - 1, 12 * n) {
         return;
     }
-    let total = times(w - 1, n + n);
-    if 420 < total {
+    if 420 < times(w - 1, n + n) {
         return;
     }
-    compare_bits(s, p, n, t, w, i, total);
+    compare_bits(s, p, n, t, w, i);
 }
 
-fn compare_bits(s: &[u8], p: u32, n: usize, t: usize, w: usize, i: usize, total: usize)
-    requires { ⌜ Fields.Modulus p × (40 ≤ length (now s)) × (n ≤ 7) × (t ≤ 3) × (1 ≤ w) × (w ≤ 31) × (40 + w * (4 * n) ≤ length (now s)) × (i + (w - 1) * (12 * n) ≤ length (now s)) × ((w - 1) * (n + n) ≤ 420) × (total ≤ 420) ⌝ }
+fn compare_bits(s: &[u8], p: u32, n: usize, t: usize, w: usize, i: usize)
+    requires { ⌜ Fields.Modulus p × (40 ≤ length (now s)) × (n ≤ 7) × (t ≤ 3) × (1 ≤ w) × (w ≤ 31) × (40 + w * (4 * n) ≤ length (now s)) × (i + (w - 1) * (12 * n) ≤ length (now s)) × ((w - 1) * (n + n) ≤ 420) ⌝ }
 {
     let mut bits = [0u32; 217];
     masks::put_rows(s, n, 40, w, &mut bits[..]);
     let mut part = [0u32; 420];
     let row = comparison::comparison(p, n, t, word(s, 6), w, &bits[..], s, i, &mut part[..]);
-    answer(s, n, row, &part[..], total);
+    answer(s, n, row, &part[..], 2 * (w - 1));
 }

@@ -47,8 +47,8 @@ add-times c = search needs
 times-requires-2 : tie.Need-times-requires-2
 times-requires-2 c κs = search needs
 
-add-total : tie.Need-add-total
-add-total c = search needs
+add-if5 : tie.Need-add-if5
+add-if5 c = search needs
 
 returns-5 : tie.Need-returns-5
 returns-5 c = search needs
@@ -79,6 +79,12 @@ blocks-row-requires c κs = (
 slice-aggregate-answer : tie.Need-slice-aggregate-answer
 slice-aggregate-answer c = search needs
 
+mul-answer : tie.Need-mul-answer
+mul-answer c = search needs
+
+add-answer : tie.Need-add-answer
+add-answer c = search needs
+
 answer-requires : tie.Need-answer-requires
 answer-requires c κs = search needs
 
@@ -103,11 +109,13 @@ by-blocks-spec =
     returns-4
     add-times
     times-requires-2
-    add-total
+    add-if5
     returns-5
     cast-blocks-row
     slice-aggregate-blocks-row
     blocks-row-requires
     slice-aggregate-answer
+    mul-answer
+    add-answer
     answer-requires
     returns-6)

@@ -41,8 +41,8 @@ add-times c = search needs
 times-requires-2 : tie.Need-times-requires-2
 times-requires-2 c κs = search needs
 
-add-total : tie.Need-add-total
-add-total c = search needs
+add-if4 : tie.Need-add-if4
+add-if4 c = search needs
 
 returns-4 : tie.Need-returns-4
 returns-4 c = search needs
@@ -69,6 +69,12 @@ sign-row-requires c κs = (
 slice-aggregate-answer : tie.Need-slice-aggregate-answer
 slice-aggregate-answer c = search needs
 
+mul-answer : tie.Need-mul-answer
+mul-answer c = search needs
+
+add-answer : tie.Need-add-answer
+add-answer c = search needs
+
 answer-requires : tie.Need-answer-requires
 answer-requires c κs = search needs
 
@@ -91,10 +97,12 @@ by-sign-spec =
     returns-3
     add-times
     times-requires-2
-    add-total
+    add-if4
     returns-4
     slice-aggregate-sign-row
     sign-row-requires
     slice-aggregate-answer
+    mul-answer
+    add-answer
     answer-requires
     returns-5)

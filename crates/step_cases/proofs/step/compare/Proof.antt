@@ -64,7 +64,6 @@ compare-bits-requires c κs = (
   omega (arith, c .before .before .before .before .before .times .ensures, c .before .before .before .before .if2, c .before .before .before .before .before .before .before .before .before .before .pre .1),
   omega (arith, c .before .before .before .times2 .ensures, c .before .before .if3, c .before .before .before .before .before .before .before .before .before .before .pre .4),
   omega (arith, c .before .times3 .ensures, c .if4),
-  omega (arith, c .if4),
 )
 
 returns-5 : tie.Need-returns-5

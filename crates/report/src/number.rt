@@ -1,4 +1,4 @@
-// Numbers and lists on standard output, each after a text.
+// Numbers and lists, each after a text.
 use field::coding;
 use libc::STDOUT_FILENO;
 
@@ -11,6 +11,12 @@ pub fn line_end() {
 }
 
 pub fn number(text: &[u8], n: u32) {
+    put(text);
+    io::print_decimal(STDOUT_FILENO, n as u64);
+}
+
+// A number that counts or is a place.
+pub fn count(text: &[u8], n: usize) {
     put(text);
     io::print_decimal(STDOUT_FILENO, n as u64);
 }
@@ -38,4 +44,10 @@ pub fn list(text: &[u8], xs: &[u32]) {
         item(xs[i]);
         i += 1;
     }
+}
+
+// The same as a line of its own.
+pub fn list_line(text: &[u8], xs: &[u32]) {
+    list(text, xs);
+    line_end();
 }

@@ -1,18 +1,16 @@
--- `print::opened` is safe and ends.
+-- `number::list` is safe and ends.
 -- Assumes nothing.
 use Prim.Native.Nat.{_-_, _≤_}
 use borrow.Author.Needs.{needs}
-use Rattle.step_cases.proofs.print.opened.Statement.{statement}
-use Rattle.step_cases.proofs.print.opened.Tie as tie
+use lib.ListN.{length}
+use Rattle.report.proofs.number.list.Statement.{statement}
+use Rattle.report.proofs.number.list.Tie as tie
 
 abbrev Inv-loop : tie.InvT-loop
-Inv-loop xs n i₀ i = i ≤ n
+Inv-loop text xs i₀ i = i ≤ length xs
 
 abbrev μ-loop : tie.MeasureT-loop
-μ-loop xs n i₀ i = n - i
-
-slice-aggregate-put : tie.Need-slice-aggregate-put Inv-loop μ-loop
-slice-aggregate-put c = search needs
+μ-loop text xs i₀ i = length xs - i
 
 put-requires : tie.Need-put-requires Inv-loop μ-loop
 put-requires c κs = search needs
@@ -38,19 +36,15 @@ loop-less c = search needs
 loop-again : tie.Need-loop-again Inv-loop μ-loop
 loop-again c = search needs
 
-line-end-requires : tie.Need-line-end-requires Inv-loop μ-loop
-line-end-requires c κs = search needs
-
 returns : tie.Need-returns Inv-loop μ-loop
 returns c = search needs
 
-pub opened-spec : {M : Type 1} → statement M
-opened-spec =
+pub list-spec : {M : Type 1} → statement M
+list-spec =
     tie.close
     (tie.spec
     Inv-loop
     μ-loop
-    slice-aggregate-put
     put-requires
     loop-holds
     mul-item
@@ -59,5 +53,4 @@ opened-spec =
     add-i
     loop-less
     loop-again
-    line-end-requires
     returns)

@@ -1,0 +1,62 @@
+// The paper's lines of a run.
+use crate::number::count;
+use crate::number::line_end;
+use crate::number::list_line;
+use crate::number::number;
+use crate::number::signed;
+
+// A line for each row of n numbers, each after the text: so many rows from the start of the list, as far as it goes.
+pub fn rows(text: &[u8], n: usize, many: usize, xs: &[u32]) {
+    let mut at = 0;
+    let mut i = 0;
+    while i < many {
+        if xs.len() - at < n {
+            return;
+        }
+        list_line(text, &xs[at..at + n]);
+        at += n;
+        i += 1;
+    }
+}
+
+// A line for each opening, whose n shares stand in the record.
+pub fn opened(n: usize, openings: usize, log: &[u32]) {
+    rows(b"opened", n, openings, log);
+}
+
+fn revealed_value(field: u32, v: u32) {
+    let reading = field::decode(field, v);
+    number(b"revealed ", v);
+    signed(b" signed ", reading.value);
+    line_end();
+}
+
+// A line for each revealed value: so many from the start of the list, as far as it goes.
+pub fn revealed(field: u32, values: usize, xs: &[u32]) {
+    let mut i = 0;
+    while i < values {
+        if xs.len() <= i {
+            return;
+        }
+        revealed_value(field, xs[i]);
+        i += 1;
+    }
+}
+
+// The last line: number, place and counts.
+pub fn end(
+    answer: u32,
+    place: usize,
+    inputs: usize,
+    masks: usize,
+    triples: usize,
+    openings: usize,
+) {
+    number(b"end ", answer);
+    count(b" at ", place);
+    count(b" inputs ", inputs);
+    count(b" masks ", masks);
+    count(b" triples ", triples);
+    count(b" openings ", openings);
+    line_end();
+}
