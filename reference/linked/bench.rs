@@ -1,8 +1,9 @@
 //! Measures the time of the proved library over that of the reference, in one process.
 //!
 //! `reference/link` builds it. For each sheet both sides are run once and held to each other. Then
-//! come rounds: in each, either side runs the sheet so often that it takes about 2 ms, and the side
-//! that starts changes from round to round. A round's time is that of one run on average.
+//! come rounds: in each, either side runs the sheet so often that it takes about half a
+//! millisecond, and the side that starts changes from round to round. A round's time is that of one
+//! run on average. On a busy machine the best round tells most: a round is slowed by what else runs.
 
 #[path = "library.rs"]
 mod library;
@@ -20,16 +21,17 @@ const USAGE: &str = "\
 usage: bench [ROUNDS]
 
 Prints for three sheets the time of a run by the proved library and by the reference, as median
-and as best of ROUNDS rounds (301 if left out, at least 1), and the ratio of the two: below 1 the
-library is faster. Both sides run in the same process, in turn, after their answers and buffers
-were found equal. Exits with 1 if they are not, with 2 if the arguments are wrong.
+and as best of ROUNDS rounds (2001 if left out, at least 1), and the ratio of the two: below 1 the
+library is faster. A third line has the median of the rounds' own ratios. Both sides run in the
+same process, in turn, after their answers and buffers were found equal. Exits with 1 if they are
+not, with 2 if the arguments are wrong.
 
 Build it with bash reference/link, after rt staticlib jundrethol.";
 
-const ROUNDS: usize = 301;
+const ROUNDS: usize = 2001;
 
 /// About how long one side runs in a round.
-const SPAN: Duration = Duration::from_millis(2);
+const SPAN: Duration = Duration::from_micros(500);
 
 /// The lists that each side writes to, and its sheet.
 struct Sides<'a> {
@@ -112,6 +114,8 @@ fn measure(name: &str, sheet: &[u8], rounds: usize) -> Result<(), String> {
             library.push(sides.time(library_runs, Sides::by_library));
         }
     }
+    let ratios = library.iter().zip(&reference).map(|(one, two)| one / two);
+    let paired = Times::of(ratios.collect()).median;
     let (library, reference) = (Times::of(library), Times::of(reference));
     for (which, library, reference) in [
         ("median", library.median, reference.median),
@@ -124,6 +128,7 @@ fn measure(name: &str, sheet: &[u8], rounds: usize) -> Result<(), String> {
              ratio {ratio:.3}"
         );
     }
+    println!("{name:<28} median of the rounds' ratios {paired:.3}");
     Ok(())
 }
 
