@@ -9,6 +9,7 @@ mod share_edges;
 
 use crate::case::{Case, RecoverCase, ShareCase, LONGEST};
 use crate::field::Field;
+use generator::Generator;
 
 /// Every permitted pair of a number of parties and a threshold.
 pub const PERMITTED: [(u32, u32); 9] = [
@@ -36,6 +37,11 @@ pub fn all() -> Vec<Case> {
     cases.extend(decode_edges::all());
     cases.extend(generated::all());
     cases
+}
+
+/// A good call of an entry, or one with wrong lengths or numbers out of range.
+pub fn case_for(seed: u64, index: u64) -> Case {
+    generated::draw(&mut Generator::at(seed, index))
 }
 
 /// Every permitted pair, the first threshold that is too large for each permitted number of
@@ -115,6 +121,21 @@ mod tests {
     use crate::case::read_all;
     use crate::line;
 
+    /// Every number that an entry can answer.
+    const ENTRIES: [(&str, &[u32]); 4] = [
+        ("share", &[0, 2, 3, 4, 5]),
+        ("recover", &[0, 2, 3, 4, 5, 6]),
+        ("encode", &[0, 2, 11]),
+        ("decode", &[0, 2, 5]),
+    ];
+
+    /// How many lines are the entry's and tell this number.
+    fn count(lines: &[String], entry: &str, number: u32) -> usize {
+        let wanted = format!(" : number {number} ");
+        let is_wanted = |line: &&String| line.starts_with(entry) && line.contains(&wanted);
+        lines.iter().filter(is_wanted).count()
+    }
+
     fn lines() -> Vec<String> {
         all().iter().map(line::answer).collect()
     }
@@ -139,19 +160,22 @@ mod tests {
     #[test]
     fn every_entry_gives_each_of_its_numbers() {
         let lines = lines();
-        let entries: [(&str, &[u32]); 4] = [
-            ("share", &[0, 2, 3, 4, 5]),
-            ("recover", &[0, 2, 3, 4, 5, 6]),
-            ("encode", &[0, 2, 11]),
-            ("decode", &[0, 2, 5]),
-        ];
-        for (entry, numbers) in entries {
+        for (entry, numbers) in ENTRIES {
             for number in numbers {
-                let wanted = format!(" : number {number} ");
-                let found = lines
-                    .iter()
-                    .filter(|line| line.starts_with(entry) && line.contains(&wanted));
-                assert!(found.count() >= 2, "{entry} {number}");
+                assert!(count(&lines, entry, *number) >= 2, "{entry} {number}");
+            }
+        }
+    }
+
+    #[test]
+    fn every_number_of_every_entry_is_drawn() {
+        let lines: Vec<_> = (0..5_000)
+            .map(|index| line::answer(&case_for(5, index)))
+            .collect();
+        for (entry, numbers) in ENTRIES {
+            for number in numbers {
+                let found = count(&lines, entry, *number);
+                assert!(found >= 20, "{entry} {number}: {found}");
             }
         }
     }

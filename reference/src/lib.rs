@@ -3,6 +3,7 @@
 
 pub mod case;
 pub mod cases;
+pub mod compare;
 pub mod dealer;
 pub mod field;
 pub mod line;

@@ -15,7 +15,7 @@ use good::Good;
 
 /// A good sheet, a near miss or a damaged sheet, with buffers of any length.
 pub fn sheet_for(seed: u64, index: u64) -> Case {
-    let mut generator = Generator::new(mixed(seed, index));
+    let mut generator = Generator::at(seed, index);
     let good = Good::draw(&mut generator);
     let (record, revealed) = (
         record_length(&mut generator, &good),
@@ -31,14 +31,6 @@ pub fn sheet_for(seed: u64, index: u64) -> Case {
         record,
         revealed,
     }
-}
-
-/// Numbers far apart for indices next to each other.
-fn mixed(seed: u64, index: u64) -> u64 {
-    let mut x = seed.wrapping_add(index.wrapping_mul(0x9E37_79B9_7F4A_7C15));
-    x = (x ^ (x >> 30)).wrapping_mul(0xBF58_476D_1CE4_E5B9);
-    x = (x ^ (x >> 27)).wrapping_mul(0x94D0_49BB_1331_11EB);
-    x ^ (x >> 31)
 }
 
 /// Mostly room for the whole script, else for the commands up to one of them, or one less.

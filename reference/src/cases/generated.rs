@@ -29,6 +29,23 @@ pub fn all() -> Vec<Case> {
     cases
 }
 
+/// Any of the kinds above, in any field and for any permitted parties.
+pub fn draw(generator: &mut Generator) -> Case {
+    let number = generator.below(FIELDS.len() as u32);
+    let field = &FIELDS[number as usize];
+    let parties = generator.pick(&PERMITTED);
+    match generator.below(8) {
+        0 => good_share(generator, number, field, parties),
+        1 => good_row(generator, number, field, parties),
+        2 => damaged_row(generator, number, field, parties),
+        3 => any_share(generator, number, field, parties),
+        4 => any_recover(generator, number, field, parties),
+        5 => good_encode(generator, number, field),
+        6 => any_encode(generator, number, field),
+        _ => any_decode(generator, number, field),
+    }
+}
+
 fn good_share(generator: &mut Generator, number: u32, field: &Field, (n, t): (u32, u32)) -> Case {
     let secret = generator.below(field.modulus);
     let coefficients = generator.list(t as usize, field.modulus);

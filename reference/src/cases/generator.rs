@@ -10,6 +10,11 @@ impl Generator {
         Generator { state: seed | 1 }
     }
 
+    /// The sequence with this index, among many of one seed.
+    pub fn at(seed: u64, index: u64) -> Generator {
+        Generator::new(mixed(seed, index))
+    }
+
     /// Marsaglia's xorshift with a final multiplication; the high bits are the best ones.
     pub fn any(&mut self) -> u64 {
         self.state ^= self.state >> 12;
@@ -31,6 +36,14 @@ impl Generator {
     pub fn pick<T: Copy>(&mut self, choices: &[T]) -> T {
         choices[self.below(choices.len() as u32) as usize]
     }
+}
+
+/// Numbers far apart for indices next to each other.
+fn mixed(seed: u64, index: u64) -> u64 {
+    let mut x = seed.wrapping_add(index.wrapping_mul(0x9E37_79B9_7F4A_7C15));
+    x = (x ^ (x >> 30)).wrapping_mul(0xBF58_476D_1CE4_E5B9);
+    x = (x ^ (x >> 27)).wrapping_mul(0x94D0_49BB_1331_11EB);
+    x ^ (x >> 31)
 }
 
 #[cfg(test)]

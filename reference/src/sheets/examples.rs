@@ -1,7 +1,7 @@
 //! The sheets of examples/sheets. Three parties, threshold 1; each has a deal of its own.
 
+use super::bench;
 use super::draft::Draft;
-use super::{bench, mixed};
 use crate::cases::generator::Generator;
 use crate::dealer::Dealer;
 use crate::script::command::Command;
@@ -44,7 +44,7 @@ fn rounding() -> Draft {
         Command::Reveal { a: 1 },
         Command::Reveal { a: 2 },
     ];
-    let mut generator = Generator::new(mixed(SEED, 0));
+    let mut generator = Generator::at(SEED, 0);
     let mut dealer = Dealer::new(&mut generator, 0, (3, 1));
     Draft::deal(&mut dealer, &commands, &[10], &[5, 12])
 }
@@ -93,7 +93,7 @@ fn blocks(d: u8, a: u8) -> Command {
 
 /// A sheet in field 2 with so many masks and all triples that the commands take.
 fn dealt(index: u64, commands: &[Command], secrets: &[u32], masks: usize) -> Draft {
-    let mut generator = Generator::new(mixed(SEED, index));
+    let mut generator = Generator::at(SEED, index);
     let mut dealer = Dealer::new(&mut generator, 2, (3, 1));
     let p = dealer.field.modulus;
     let masks = dealer.generator.list(masks, p);

@@ -1,0 +1,163 @@
+//! Measures the time of the proved library over that of the reference, in one process.
+//!
+//! `reference/link` builds it. For each sheet both sides are run once and held to each other. Then
+//! come rounds: in each, either side runs the sheet so often that it takes about half a
+//! millisecond, and the side that starts changes from round to round. A round's time is that of one
+//! run on average. On a busy machine the best round tells most: a round is slowed by what else runs.
+
+#[path = "library.rs"]
+mod library;
+
+use std::hint::black_box;
+use std::process::ExitCode;
+use std::time::{Duration, Instant};
+
+use reference::compare::{Lengths, Ran};
+use reference::run::run;
+use reference::sheets::bench;
+use reference::table::{RECORD, REVEALED};
+
+const USAGE: &str = "\
+usage: bench [ROUNDS]
+
+Prints for three sheets the time of a run by the proved library and by the reference, as median
+and as best of ROUNDS rounds (2001 if left out, at least 1), and the ratio of the two: below 1 the
+library is faster. A third line has the median of the rounds' own ratios. Both sides run in the
+same process, in turn, after their answers and buffers were found equal. Exits with 1 if they are
+not, with 2 if the arguments are wrong.
+
+Build it with bash reference/link, after rt staticlib jundrethol.";
+
+const ROUNDS: usize = 2001;
+
+/// About how long one side runs in a round.
+const SPAN: Duration = Duration::from_micros(500);
+
+/// The lists that each side writes to, and its sheet.
+struct Sides<'a> {
+    sheet: &'a [u8],
+    library: Ran,
+    reference: Ran,
+}
+
+impl Sides<'_> {
+    fn by_library(&mut self) {
+        library::run(&mut self.library, black_box(self.sheet));
+        black_box(&mut self.library);
+    }
+
+    /// The run alone: the reference's answer is a value, which is not moved to lists.
+    fn by_reference(&mut self) {
+        let ran = &mut self.reference;
+        let sheet = black_box(self.sheet);
+        black_box(run(sheet, &mut ran.record, &mut ran.revealed));
+    }
+
+    /// Nanoseconds of one run, on average over some.
+    fn time(&mut self, runs: u32, side: fn(&mut Self)) -> f64 {
+        let start = Instant::now();
+        for _ in 0..runs {
+            side(self);
+        }
+        start.elapsed().as_nanos() as f64 / f64::from(runs)
+    }
+
+    /// How many runs take about the span.
+    fn runs(&mut self, side: fn(&mut Self)) -> u32 {
+        let mut runs = 1;
+        while self.time(runs, side) * f64::from(runs) < SPAN.as_nanos() as f64 {
+            runs *= 2;
+        }
+        runs
+    }
+}
+
+struct Times {
+    median: f64,
+    best: f64,
+}
+
+impl Times {
+    fn of(mut rounds: Vec<f64>) -> Times {
+        rounds.sort_by(f64::total_cmp);
+        Times {
+            median: rounds[rounds.len() / 2],
+            best: rounds[0],
+        }
+    }
+}
+
+/// Prints the sheet's line, or says where the sides differ.
+fn measure(name: &str, sheet: &[u8], rounds: usize) -> Result<(), String> {
+    let before = Ran::before(RECORD, REVEALED, Lengths::WHOLE);
+    let mut sides = Sides {
+        sheet,
+        library: before.clone(),
+        reference: before,
+    };
+    sides.by_library();
+    sides.reference.by_reference(sheet);
+    if let Some(difference) = sides.reference.difference(&sides.library) {
+        return Err(format!(
+            "{name}: reference and library differ: {difference}"
+        ));
+    }
+    let library_runs = sides.runs(Sides::by_library);
+    let reference_runs = sides.runs(Sides::by_reference);
+    let (mut library, mut reference) = (Vec::new(), Vec::new());
+    for round in 0..rounds {
+        if round % 2 == 0 {
+            library.push(sides.time(library_runs, Sides::by_library));
+            reference.push(sides.time(reference_runs, Sides::by_reference));
+        } else {
+            reference.push(sides.time(reference_runs, Sides::by_reference));
+            library.push(sides.time(library_runs, Sides::by_library));
+        }
+    }
+    let ratios = library.iter().zip(&reference).map(|(one, two)| one / two);
+    let paired = Times::of(ratios.collect()).median;
+    let (library, reference) = (Times::of(library), Times::of(reference));
+    for (which, library, reference) in [
+        ("median", library.median, reference.median),
+        ("best", library.best, reference.best),
+    ] {
+        let ratio = library / reference;
+        let (library, reference) = (library / 1000.0, reference / 1000.0);
+        println!(
+            "{name:<28} {which:<6}  library {library:>10.3} us  reference {reference:>10.3} us  \
+             ratio {ratio:.3}"
+        );
+    }
+    println!("{name:<28} median of the rounds' ratios {paired:.3}");
+    Ok(())
+}
+
+fn main() -> ExitCode {
+    let arguments: Vec<_> = std::env::args().skip(1).collect();
+    if arguments == ["--help"] {
+        println!("{USAGE}");
+        return ExitCode::SUCCESS;
+    }
+    let rounds = match &arguments[..] {
+        [] => Some(ROUNDS),
+        [word] => word.parse().ok().filter(|&rounds| rounds > 0),
+        _ => None,
+    };
+    let Some(rounds) = rounds else {
+        eprintln!("{USAGE}");
+        return ExitCode::from(2);
+    };
+    println!("{rounds} rounds");
+    let sheets = [
+        ("largest sheet", bench::largest()),
+        ("LTZ of 30 bits in field 3", bench::signs(30)),
+        ("small sheet", bench::small()),
+    ];
+    for (name, sheet) in sheets {
+        if let Err(message) = measure(name, &sheet, rounds) {
+            eprintln!("bench: {message}");
+            return ExitCode::from(1);
+        }
+    }
+    ExitCode::SUCCESS
+}

@@ -1,0 +1,141 @@
+//! Holds the proved library to the reference: the stored sheets and calls, then drawn ones.
+//!
+//! `reference/link` builds it. Of a run are compared number, place and counts, marks, register
+//! cells, and both buffers to their last number; of a small entry (share, recover, encode, decode)
+//! number, value and the lent list. All that is written to is filled before with numbers that no
+//! run writes, so that a number too many, too few or left over is seen. The lists for registers,
+//! marks and counts are at times too short or too long. Differences are listed with the
+//! reference's number before the library's.
+
+mod library;
+
+use std::process::ExitCode;
+
+use reference::case::Case;
+use reference::cases::generator::Generator;
+use reference::cases::{self, case_for};
+use reference::compare::{Entered, Lengths, Ran};
+use reference::run_case;
+use reference::sheets::{self, sheet_for};
+
+const USAGE: &str = "\
+usage: compare SEED COUNT [FIRST]
+
+Compares the proved library with the reference: all stored sheets and calls, COUNT sheets drawn
+from SEED and the indices FIRST, FIRST + 1, ... (FIRST is 0 if left out), and 4 calls of small
+entries (share, recover, encode, decode) for each of them. The last line tells how many were
+compared and how many differ. Exits with 1 if any does, with 2 if the arguments are wrong.
+
+Build it with bash reference/link, after rt staticlib jundrethol.";
+
+/// How many calls of small entries are drawn for a sheet.
+const ENTRIES: u64 = 4;
+
+/// How many differences are listed.
+const LISTED: usize = 5;
+
+/// How many bytes of a sheet are listed.
+const SHOWN: usize = 400;
+
+/// Apart from the sheet's own sequence, so that one does not decide the other.
+const LENGTHS_SEED: u64 = 0x5EED_0004;
+
+#[derive(Default)]
+struct Tally {
+    runs: u64,
+    /// How many runs ended with each number.
+    numbers: [u64; 27],
+    entries: u64,
+    differing: usize,
+}
+
+impl Tally {
+    fn run(&mut self, name: &str, case: &run_case::Case, lengths: Lengths) {
+        let mut reference = Ran::before(case.record, case.revealed, lengths);
+        let mut library = reference.clone();
+        reference.by_reference(&case.sheet);
+        library::run(&mut library, &case.sheet);
+        self.runs += 1;
+        self.numbers[reference.number as usize] += 1;
+        if let Some(difference) = reference.difference(&library) {
+            let (record, revealed) = (case.record, case.revealed);
+            let shown = &case.sheet[..case.sheet.len().min(SHOWN)];
+            let length = case.sheet.len();
+            self.differs(format!(
+                "{name}: {difference}\n  record {record} revealed {revealed} {lengths:?}\n  \
+                 sheet of {length} bytes: {shown:?}"
+            ));
+        }
+    }
+
+    fn entry(&mut self, name: &str, case: &Case) {
+        let reference = Entered::by_reference(case);
+        let library = library::enter(case);
+        self.entries += 1;
+        if let Some(difference) = reference.difference(&library) {
+            self.differs(format!("{name}: {difference}\n  {case:?}"));
+        }
+    }
+
+    fn differs(&mut self, lines: String) {
+        if self.differing < LISTED {
+            println!("{lines}");
+        }
+        self.differing += 1;
+    }
+
+    fn stored(&mut self) {
+        for (place, case) in sheets::stored::all().iter().enumerate() {
+            self.run(&format!("stored sheet {place}"), case, Lengths::WHOLE);
+        }
+        for (place, case) in cases::all().iter().enumerate() {
+            self.entry(&format!("stored call {place}"), case);
+        }
+    }
+
+    fn drawn(&mut self, seed: u64, index: u64) {
+        let case = sheet_for(seed, index);
+        let lengths = Lengths::draw(&mut Generator::at(seed ^ LENGTHS_SEED, index));
+        self.run(&format!("sheet {seed} {index}"), &case, lengths);
+        for entry in 0..ENTRIES {
+            let index = index.wrapping_mul(ENTRIES).wrapping_add(entry);
+            self.entry(&format!("call {seed} {index}"), &case_for(seed, index));
+        }
+    }
+
+    fn tell(&self) {
+        let ends: Vec<_> = (self.numbers.iter().enumerate())
+            .filter(|(_, &count)| count > 0)
+            .map(|(number, count)| format!("{number}: {count}"))
+            .collect();
+        println!("runs by number: {}", ends.join(", "));
+        println!(
+            "{} runs of sheets and {} calls of small entries compared, {} differ",
+            self.runs, self.entries, self.differing
+        );
+    }
+}
+
+fn main() -> ExitCode {
+    let arguments: Vec<_> = std::env::args().skip(1).collect();
+    if arguments == ["--help"] {
+        println!("{USAGE}");
+        return ExitCode::SUCCESS;
+    }
+    let numbers: Result<Vec<u64>, _> = arguments.iter().map(|word| word.parse()).collect();
+    let (seed, count, first) = match numbers.as_deref() {
+        Ok([seed, count]) => (*seed, *count, 0),
+        Ok([seed, count, first]) => (*seed, *count, *first),
+        _ => {
+            eprintln!("{USAGE}");
+            return ExitCode::from(2);
+        }
+    };
+    let mut tally = Tally::default();
+    tally.stored();
+    for place in 0..count {
+        tally.drawn(seed, first.wrapping_add(place));
+    }
+    tally.tell();
+    ExitCode::from(u8::from(tally.differing > 0))
+}

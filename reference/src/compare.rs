@@ -1,0 +1,264 @@
+//! What a call leaves in everything that its caller lends, and where two calls differ.
+
+use crate::case::Case;
+use crate::cases::generator::Generator;
+use crate::run;
+use crate::sharing::{recover, share};
+use crate::signed::{decode, encode};
+
+pub const CELLS: usize = 448;
+pub const MARKS: usize = 64;
+pub const COUNTS: usize = 5;
+
+/// The lengths of the lists that a run of the library fills besides its two buffers.
+#[derive(Clone, Copy, Debug, PartialEq)]
+pub struct Lengths {
+    pub registers: usize,
+    pub marks: usize,
+    pub counts: usize,
+}
+
+impl Lengths {
+    pub const WHOLE: Lengths = Lengths {
+        registers: CELLS,
+        marks: MARKS,
+        counts: COUNTS,
+    };
+
+    /// Mostly the whole lists; else each of them whole, longer or too short.
+    pub fn draw(generator: &mut Generator) -> Lengths {
+        if generator.below(4) > 0 {
+            return Lengths::WHOLE;
+        }
+        let mut length = |whole: usize| match generator.below(4) {
+            0 => generator.below(whole as u32) as usize,
+            1 => whole + 1 + generator.below(9) as usize,
+            _ => whole,
+        };
+        Lengths {
+            registers: length(CELLS),
+            marks: length(MARKS),
+            counts: length(COUNTS),
+        }
+    }
+}
+
+/// What a run answers, and all that it writes to.
+#[derive(Clone, Debug, PartialEq)]
+pub struct Ran {
+    pub number: u32,
+    pub record: Vec<u32>,
+    pub revealed: Vec<u32>,
+    pub registers: Vec<u32>,
+    pub marks: Vec<u8>,
+    pub counts: Vec<u64>,
+}
+
+impl Ran {
+    /// Before the run: numbers that no run writes. In the buffers no two are the same.
+    pub fn before(record: usize, revealed: usize, lengths: Lengths) -> Ran {
+        Ran {
+            number: u32::MAX,
+            record: filling(record),
+            revealed: filling(revealed),
+            registers: filling(lengths.registers),
+            marks: vec![0xA5; lengths.marks],
+            counts: (u64::MAX - 100..).take(lengths.counts).collect(),
+        }
+    }
+
+    /// Runs the sheet by the reference.
+    pub fn by_reference(&mut self, sheet: &[u8]) {
+        let answer = run::run(sheet, &mut self.record, &mut self.revealed);
+        self.number = answer.number;
+        put(&mut self.registers, answer.registers.into_iter().flatten());
+        put(&mut self.marks, answer.set.into_iter().map(u8::from));
+        let counts = [
+            answer.place,
+            answer.inputs,
+            answer.masks,
+            answer.triples,
+            answer.openings,
+        ];
+        put(&mut self.counts, counts.map(|count| count as u64));
+    }
+
+    /// Where the other run differs first.
+    pub fn difference(&self, other: &Ran) -> Option<String> {
+        list_difference("number", &[self.number], &[other.number])
+            .or_else(|| list_difference("counts", &self.counts, &other.counts))
+            .or_else(|| list_difference("marks", &self.marks, &other.marks))
+            .or_else(|| list_difference("registers", &self.registers, &other.registers))
+            .or_else(|| list_difference("record", &self.record, &other.record))
+            .or_else(|| list_difference("revealed", &self.revealed, &other.revealed))
+    }
+}
+
+/// What one of the small entries answers, and all that it writes to.
+#[derive(Clone, Debug, PartialEq)]
+pub struct Entered {
+    pub number: u32,
+    /// The secret, the value or the signed number; 0 for sharing, which has none.
+    pub value: i64,
+    pub lent: Vec<u32>,
+}
+
+impl Entered {
+    /// Calls the reference.
+    pub fn by_reference(case: &Case) -> Entered {
+        let mut lent = Vec::new();
+        let (number, value) = match case {
+            Case::Share(call) => {
+                lent.clone_from(&call.lent);
+                let (n, t) = (call.parties, call.threshold);
+                let number = share(call.field, n, t, call.secret, &call.coefficients, &mut lent);
+                (number, 0)
+            }
+            Case::Recover(call) => {
+                lent.clone_from(&call.lent);
+                let (n, t) = (call.parties, call.threshold);
+                let (number, secret) = recover(call.field, n, t, &call.row, &mut lent);
+                (number, i64::from(secret))
+            }
+            Case::Encode { field, k, a } => {
+                let (number, value) = encode(*field, *k, *a);
+                (number, i64::from(value))
+            }
+            Case::Decode { field, v } => decode(*field, *v),
+        };
+        Entered {
+            number,
+            value,
+            lent,
+        }
+    }
+
+    /// Where the other call differs first.
+    pub fn difference(&self, other: &Entered) -> Option<String> {
+        list_difference("number", &[self.number], &[other.number])
+            .or_else(|| list_difference("value", &[self.value], &[other.value]))
+            .or_else(|| list_difference("lent", &self.lent, &other.lent))
+    }
+}
+
+/// Numbers above every modulus, no two the same.
+fn filling(length: usize) -> Vec<u32> {
+    (4_000_000_001..).take(length).collect()
+}
+
+/// As many values as the list has places for; past them it is unchanged.
+fn put<T>(list: &mut [T], values: impl IntoIterator<Item = T>) {
+    for (place, value) in list.iter_mut().zip(values) {
+        *place = value;
+    }
+}
+
+fn list_difference<T: PartialEq + std::fmt::Display>(
+    name: &str,
+    list: &[T],
+    other: &[T],
+) -> Option<String> {
+    if list.len() != other.len() {
+        let lengths = (list.len(), other.len());
+        return Some(format!("{name}: {} numbers, {}", lengths.0, lengths.1));
+    }
+    let place = (0..list.len()).find(|&place| list[place] != other[place])?;
+    let (one, two) = (&list[place], &other[place]);
+    Some(format!("{name}[{place}]: {one}, {two}"))
+}
+
+#[cfg(test)]
+mod tests {
+    use super::*;
+    use crate::cases::case_for;
+    use crate::sheets::{bench, sheet_for};
+
+    fn ran(lengths: Lengths) -> Ran {
+        let mut ran = Ran::before(12, 3, lengths);
+        ran.by_reference(&bench::small());
+        ran
+    }
+
+    #[test]
+    fn a_run_is_told_whole() {
+        let ran = ran(Lengths::WHOLE);
+        assert_eq!((ran.number, &ran.counts[..]), (0, &[10, 2, 0, 1, 3][..]));
+        assert_eq!(ran.registers[14..18], [7, 12, 4, 0]);
+        assert_eq!((ran.marks[2], ran.marks[3]), (1, 0));
+        assert_eq!(ran.record[..9], [5, 6, 7, 2, 3, 4, 7, 12, 4]);
+        assert_eq!(
+            ran.record[9..],
+            [4_000_000_010, 4_000_000_011, 4_000_000_012]
+        );
+        assert_eq!(ran.revealed, [2, 4_000_000_002, 4_000_000_003]);
+    }
+
+    #[test]
+    fn lists_of_other_lengths_get_what_they_have_places_for() {
+        let lengths = Lengths {
+            registers: 450,
+            marks: 3,
+            counts: 6,
+        };
+        let ran = ran(lengths);
+        assert_eq!(ran.registers[447..], [0, 4_000_000_449, 4_000_000_450]);
+        assert_eq!(ran.marks, [1, 1, 1]);
+        assert_eq!(ran.counts[4..], [3, u64::MAX - 95]);
+    }
+
+    #[test]
+    fn every_change_of_a_run_is_a_difference() {
+        let whole = ran(Lengths::WHOLE);
+        assert_eq!(whole.difference(&whole.clone()), None);
+        let seen = |change: &dyn Fn(&mut Ran)| {
+            let mut other = whole.clone();
+            change(&mut other);
+            whole.difference(&other).expect("a difference")
+        };
+        assert_eq!(seen(&|ran| ran.number = 4), "number[0]: 0, 4");
+        for place in 0..COUNTS {
+            seen(&|ran| ran.counts[place] += 1);
+        }
+        for place in 0..MARKS {
+            seen(&|ran| ran.marks[place] ^= 1);
+        }
+        for place in 0..CELLS {
+            seen(&|ran| ran.registers[place] += 1);
+        }
+        for place in 0..12 {
+            seen(&|ran| ran.record[place] -= 1);
+        }
+        for place in 0..3 {
+            seen(&|ran| ran.revealed[place] -= 1);
+        }
+        let shorter = seen(&|ran| ran.record.truncate(11));
+        assert_eq!(shorter, "record: 12 numbers, 11");
+    }
+
+    #[test]
+    fn a_refused_sheet_leaves_both_buffers() {
+        let case = sheet_for(1, 0);
+        let before = Ran::before(case.record, case.revealed, Lengths::WHOLE);
+        let mut ran = before.clone();
+        ran.by_reference(&case.sheet[..10]);
+        assert_eq!((ran.number, &ran.counts), (1, &vec![0; COUNTS]));
+        assert_eq!((ran.registers, ran.marks), (vec![0; CELLS], vec![0; MARKS]));
+        assert_eq!((ran.record, ran.revealed), (before.record, before.revealed));
+    }
+
+    #[test]
+    fn every_change_of_an_entry_is_a_difference() {
+        for index in 0..200 {
+            let entered = Entered::by_reference(&case_for(1, index));
+            assert_eq!(entered.difference(&entered.clone()), None);
+            let mut other = entered.clone();
+            other.value += 1;
+            assert!(entered.difference(&other).is_some());
+            for place in 0..entered.lent.len() {
+                let mut other = entered.clone();
+                other.lent[place] ^= 1;
+                assert!(entered.difference(&other).is_some());
+            }
+        }
+    }
+}
