@@ -2,13 +2,12 @@
 -- Assumes nothing.
 use mathlib.Core.Path.{_≡_, refl, sym, ap, _∙_}
 use mathlib.Core.Bool.{true}
-use mathlib.Core.List.{List, [], _∷_, _++_, append-nil}
-use Prim.Native.Nat.{ℕ, zero, suc, _+_, _-_, _*_, _≤_, _<_}
+use mathlib.Core.List.{List, [], _∷_, _++_, append-assoc}
+use Prim.Native.Nat.{ℕ, zero, suc, _+_, _*_, _≤_, _<_}
 use native.Mathlib.Omega.{arith}
-use lib.ListN.{length, getD, set, take, drop, length-append, length-drop, drop-of-length-le}
-use lib.Seq.{length-take-le, take-all, take-at, drop-at, drop-drop, drop-append-le, take-append-le, take-take, take-nil}
-use borrow.Rule.Slice.PartMut.{putMid, midOf}
-use Rattle.algebra.specs.Lists.{over}
+use native.Mathlib.Numerals.{add-one}
+use lib.ListN.{length, getD, set, take, drop, length-append, length-drop}
+use lib.Seq.{paste, paste-zero, paste-suc, length-take-le, take-all, take-at, drop-at, drop-drop, drop-append-le, take-append-le, take-take, take-nil}
 use Rattle.model.specs.Bytes.{sevens}
 use Rattle.model.specs.Steps.{Row}
 use Rattle.model.specs.Run.{State, noRow, register, registersFrom}
@@ -22,18 +21,6 @@ putCells cells d x = take (7 * d) cells ++ (x ++ drop (7 * d + 7) cells)
 pub length-put : (cells : List ℕ) (d : ℕ) (x : Row) → 7 * d + 7 ≤ length cells → length x ≡ 7 → length (putCells cells d x) ≡ length cells
 length-put cells d x h e =
     length-append (take (7 * d) cells) _ ∙ rw (length-append x, length-take-le (7 * d) cells (omega arith), length-drop (7 * d + 7) cells, e) (omega arith)
-
--- what the code writes through the lent part
-pub put-cells : (cells last : List ℕ) (d : ℕ) (x : Row) → d < 64 → length cells ≡ 448 → length x ≡ 7
-    → last ≡ over (take 7 x) (midOf (7 * d) (448 - 7 * d) cells) → putMid (7 * d) (448 - 7 * d) cells last ≡ putCells cells d x
-unfolding over
-put-cells cells last d x h e ex el =
-    let a : ℕ = 7 * d in
-    let all : take (448 - a) (drop a cells) ≡ drop a cells = take-all (448 - a) (drop a cells) (rw (length-drop a cells) (omega arith)) in
-    let none : drop (448 - a) (drop a cells) ≡ [] = drop-of-length-le (drop a cells) {i = 448 - a} (rw (length-drop a cells) (omega arith)) in
-    let seven : take 7 x ≡ x = take-all 7 x (omega arith) in
-    ap (λ (v : List ℕ). take a cells ++ v)
-    (rw (none, append-nil) (el ∙ rw (all, seven, ex, drop-drop 7 a cells)))
 
 -- reading
 pub get-seven : (w : ℕ) (cells : List ℕ) (a : ℕ) → a < w → getD (sevens w cells) a noRow ≡ take 7 (drop (7 * a) cells)
@@ -84,7 +71,19 @@ from-sevens st cells b (suc w) e h =
     let r : take 7 (drop (7 * b) cells) ≡ register st b = sym (get-seven 64 cells b (omega arith)) ∙ ap (λ (v : List Row). getD v b noRow) e in
     rw (drop-drop 7 (7 * b) cells, k, from-sevens st cells (suc b) w e (omega arith), r)
 
-pub put-done : (t : Table) (d : ℕ) (x : Row) {cells : List ℕ} → cells ≡ putCells (t .cells) d x
-    → record { cells = cells; marks = set (t .marks) d true; spent = t .spent } ≡ putTable t d x
-unfolding putTable
-put-done t d x e = rw e
+-- the loop that puts a row, cell by cell
+abbrev pub withCells : Table → List ℕ → Table
+withCells t cells = record { cells = cells; marks = t .marks; spent = t .spent }
+
+module _ (t : Table) (d : ℕ) (x : Row) (size : length (t .cells) ≡ 448) (seven : length x ≡ 7) (h : d < 64) where
+  pub put-start : t ≡ withCells t (paste (t .cells) (7 * d) x 0)
+  put-start = ap (withCells t) (paste-zero (t .cells) (7 * d) x)
+
+  pub put-more : (j : ℕ) {s : Table} → j < 7 → s ≡ withCells t (paste (t .cells) (7 * d) x j)
+      → withCells s (set (s .cells) (7 * d + j) (getD x j 0)) ≡ withCells t (paste (t .cells) (7 * d) x (j + 1))
+  put-more j k e = rw (e, add-one) (ap (withCells t) (paste-suc (t .cells) (7 * d) x j 0 (omega arith) (omega arith)))
+
+  pub put-done : {s : Table} {j : ℕ} → j ≡ 7 → s ≡ withCells t (paste (t .cells) (7 * d) x j)
+      → record { cells = s .cells; marks = set (s .marks) d true; spent = s .spent } ≡ putTable t d x
+  unfolding putTable paste
+  put-done q e = let all : take 7 x ≡ x = take-all 7 x (omega arith) in rw (e, q, all, append-assoc)

@@ -23,12 +23,10 @@ pub struct Stepped {
 
 impl Table {
     // "Inputs counts the finished LOADs; masks, triples and openings are the sums of what is spent over the finished commands."
-    fn pay(self, k: Counts) -> Table
+    fn pay(mut self, k: Counts) -> Table
         requires { ⌜ (self .spent .inputs + k .inputs < 2 ^ 64) × (self .spent .masks + k .masks < 2 ^ 64) × (self .spent .triples + k .triples < 2 ^ 64) × (self .spent .openings + k .openings < 2 ^ 64) × (self .spent .revealed + k .revealed < 2 ^ 64) ⌝ }
         ensures { λ r. ⌜ r ≡ paid self k ⌝ }
     {
-        let cells = self.cells;
-        let marks = self.marks;
         let spent = Counts {
             inputs: self.spent.inputs + k.inputs,
             masks: self.spent.masks + k.masks,
@@ -36,11 +34,8 @@ impl Table {
             openings: self.spent.openings + k.openings,
             revealed: self.spent.revealed + k.revealed,
         };
-        Table {
-            cells,
-            marks,
-            spent,
-        }
+        self.spent = spent;
+        self
     }
 
     // A command that the checks let through.

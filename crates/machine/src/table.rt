@@ -3,10 +3,8 @@ ghost use mathlib.Core.Path.{_≡_};
 ghost use Prim.Native.Nat.{_*_, _^_, _≤_, _<_};
 ghost use Rattle.machine.specs.Holding.{maskPlace, triplePlace, logPlace};
 ghost use Rattle.machine.specs.Tables.{emptyTable, putTable, registerIn};
-use sharing::rows;
 use sharing::rows::Row;
 use sheet::frame::Frame;
-use steps::comparison;
 
 // Inputs, masks, triples, openings and revealed values.
 pub struct Counts {
@@ -65,24 +63,32 @@ impl Table {
         requires { ⌜ a < 64 ⌝ }
         ensures { λ r. ⌜ r .shares ≡ registerIn self a ⌝ }
     {
-        let cells = self.cells;
-        comparison::cell_row(&cells[..], a)
+        let i = 7 * a;
+        Row {
+            shares: [
+                self.cells[i],
+                self.cells[i + 1],
+                self.cells[i + 2],
+                self.cells[i + 3],
+                self.cells[i + 4],
+                self.cells[i + 5],
+                self.cells[i + 6],
+            ],
+        }
     }
 
     // The row goes to register d, which is set then.
-    pub fn put(self, d: usize, row: Row) -> Table
+    pub fn put(mut self, d: usize, row: Row) -> Table
         requires { ⌜ d < 64 ⌝ }
         ensures { λ r. ⌜ r ≡ putTable self d (row .shares) ⌝ }
     {
-        let mut cells = self.cells;
-        rows::put_shares(&mut cells[7 * d..], row, 7);
-        let mut marks = self.marks;
-        marks[d] = true;
-        let spent = self.spent;
-        Table {
-            cells,
-            marks,
-            spent,
+        let i = 7 * d;
+        let mut j = 0;
+        while j < 7 {
+            self.cells[i + j] = row.shares[j];
+            j += 1;
         }
+        self.marks[d] = true;
+        self
     }
 }

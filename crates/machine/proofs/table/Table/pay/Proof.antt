@@ -6,6 +6,12 @@ use Rattle.machine.specs.Tables.{paid}
 use Rattle.machine.proofs.table.Table.pay.Statement.{statement}
 use Rattle.machine.proofs.table.Table.pay.Tie as tie
 
+add-t4 : tie.Need-add-t4
+add-t4 c = search needs
+
+add-t5 : tie.Need-add-t5
+add-t5 c = search needs
+
 add-t6 : tie.Need-add-t6
 add-t6 c = search needs
 
@@ -15,15 +21,9 @@ add-t7 c = search needs
 add-t8 : tie.Need-add-t8
 add-t8 c = search needs
 
-add-t9 : tie.Need-add-t9
-add-t9 c = search needs
-
-add-t10 : tie.Need-add-t10
-add-t10 c = search needs
-
 returns : tie.Need-returns
 unfolding paid
 returns c = refl
 
 pub pay-spec : {M : Type 1} → statement M
-pay-spec = tie.close (tie.spec add-t6 add-t7 add-t8 add-t9 add-t10 returns)
+pay-spec = tie.close (tie.spec add-t4 add-t5 add-t6 add-t7 add-t8 returns)
