@@ -1,8 +1,9 @@
 -- The checks 22 to 26, of a cost as the code has it, where the registers read are set; and what a cost that passes leaves.
 -- Assumes nothing.
 use mathlib.Core.Path.{_≡_, sym, ap}
-use mathlib.Core.Bool.{true, false}
-use Prim.Native.Nat.{ℕ, _+_, _*_, _≤_, _<_}
+use mathlib.Core.Bool.{Bool, true, false}
+use mathlib.Core.List.{List}
+use Prim.Native.Nat.{ℕ, _+_, _*_, _^_, _≤_, _<_}
 use native.Mathlib.Omega.{arith}
 use lib.Dec.{leb}
 use borrow.Author.Tests.{le-leb, lt-leb}
@@ -10,13 +11,14 @@ use Rattle.model.specs.Costs.{Cost}
 use Rattle.model.specs.Run.{allSet, check}
 use Rattle.sheet.specs.declared.frame.Frame.{Frame}
 use Rattle.machine.specs.declared.table.Counts.{Counts}
-use Rattle.machine.specs.declared.table.Table.{Table}
 use Rattle.machine.specs.Tables.{countsOf}
-use Rattle.machine.specs.Holding.{spentOf, supplyIn}
+use Rattle.machine.specs.Holding.{spentBy, supplyIn}
+use mir.Syntax.{w64}
+use mir.Val.{Fits}
 
-pub unset : (f : Frame) (log shown : ℕ) (t : Table) (c : Cost) → false ≡ allSet (t .marks) (c .reads) → 21 ≡ check (supplyIn f log shown) c (spentOf t)
+pub unset : (f : Frame) (log shown : ℕ) (n : Counts) (marks : List Bool) (c : Cost) → false ≡ allSet marks (c .reads) → 21 ≡ check (supplyIn f log shown) c (spentBy n marks)
 unfolding check
-unset f log shown t c r = rw (sym r)
+unset f log shown n marks c r = rw (sym r)
 
 passes : (a b x y : ℕ) → x ≡ y → a + x ≤ b → leb (a + y) b ≡ true
 passes a b x y q h = le-leb (a + y) b (omega arith)
@@ -24,18 +26,18 @@ passes a b x y q h = le-leb (a + y) b (omega arith)
 fails : (a b x y : ℕ) → x ≡ y → b < a + x → leb (a + y) b ≡ false
 fails a b x y q h = lt-leb (a + y) b (omega arith)
 
-module _ (f : Frame) (log shown : ℕ) (t : Table) {k : Counts} (c : Cost) (e : k ≡ countsOf c) (r : true ≡ allSet (t .marks) (c .reads)) where
-  pub no-input : f .inputs < t .spent .inputs + k .inputs → 22 ≡ check (supplyIn f log shown) c (spentOf t)
+module _ (f : Frame) (log shown : ℕ) (n : Counts) (marks : List Bool) {k : Counts} (c : Cost) (e : k ≡ countsOf c) (r : true ≡ allSet marks (c .reads)) where
+  pub no-input : f .inputs < n .inputs + k .inputs → 22 ≡ check (supplyIn f log shown) c (spentBy n marks)
   unfolding check
   no-input h = rw (sym r, fails _ _ _ _ (ap (λ (v : Counts). v .inputs) e) h)
 
-  module _ (inputs : t .spent .inputs + k .inputs ≤ f .inputs) where
-    pub no-mask : f .masks < t .spent .masks + k .masks → 23 ≡ check (supplyIn f log shown) c (spentOf t)
+  module _ (inputs : n .inputs + k .inputs ≤ f .inputs) where
+    pub no-mask : f .masks < n .masks + k .masks → 23 ≡ check (supplyIn f log shown) c (spentBy n marks)
     unfolding check
     no-mask h = rw (sym r, passes _ _ _ _ (ap (λ (v : Counts). v .inputs) e) inputs, fails _ _ _ _ (ap (λ (v : Counts). v .masks) e) h)
 
-    module _ (masks : t .spent .masks + k .masks ≤ f .masks) where
-      pub no-triples : f .triples < t .spent .triples + k .triples → 24 ≡ check (supplyIn f log shown) c (spentOf t)
+    module _ (masks : n .masks + k .masks ≤ f .masks) where
+      pub no-triples : f .triples < n .triples + k .triples → 24 ≡ check (supplyIn f log shown) c (spentBy n marks)
       unfolding check
       no-triples h =
           rw (
@@ -45,8 +47,8 @@ module _ (f : Frame) (log shown : ℕ) (t : Table) {k : Counts} (c : Cost) (e : 
             fails _ _ _ _ (ap (λ (v : Counts). v .triples) e) h,
           )
 
-      module _ (triples : t .spent .triples + k .triples ≤ f .triples) where
-        pub no-room : log < (t .spent .openings + k .openings) * f .n → 25 ≡ check (supplyIn f log shown) c (spentOf t)
+      module _ (triples : n .triples + k .triples ≤ f .triples) where
+        pub no-room : log < (n .openings + k .openings) * f .n → 25 ≡ check (supplyIn f log shown) c (spentBy n marks)
         unfolding check
         no-room h =
             rw (
@@ -54,11 +56,11 @@ module _ (f : Frame) (log shown : ℕ) (t : Table) {k : Counts} (c : Cost) (e : 
               passes _ _ _ _ (ap (λ (v : Counts). v .inputs) e) inputs,
               passes _ _ _ _ (ap (λ (v : Counts). v .masks) e) masks,
               passes _ _ _ _ (ap (λ (v : Counts). v .triples) e) triples,
-              lt-leb ((t .spent .openings + c .openings) * f .n) log (rw (sym (ap (λ (v : Counts). v .openings) e)) h),
+              lt-leb ((n .openings + c .openings) * f .n) log (rw (sym (ap (λ (v : Counts). v .openings) e)) h),
             )
 
-        module _ (room : (t .spent .openings + k .openings) * f .n ≤ log) where
-          pub no-space : shown < t .spent .revealed + k .revealed → 26 ≡ check (supplyIn f log shown) c (spentOf t)
+        module _ (room : (n .openings + k .openings) * f .n ≤ log) where
+          pub no-space : shown < n .revealed + k .revealed → 26 ≡ check (supplyIn f log shown) c (spentBy n marks)
           unfolding check
           no-space h =
               rw (
@@ -66,11 +68,11 @@ module _ (f : Frame) (log shown : ℕ) (t : Table) {k : Counts} (c : Cost) (e : 
                 passes _ _ _ _ (ap (λ (v : Counts). v .inputs) e) inputs,
                 passes _ _ _ _ (ap (λ (v : Counts). v .masks) e) masks,
                 passes _ _ _ _ (ap (λ (v : Counts). v .triples) e) triples,
-                le-leb ((t .spent .openings + c .openings) * f .n) log (rw (sym (ap (λ (v : Counts). v .openings) e)) room),
+                le-leb ((n .openings + c .openings) * f .n) log (rw (sym (ap (λ (v : Counts). v .openings) e)) room),
                 fails _ _ _ _ (ap (λ (v : Counts). v .revealed) e) h,
               )
 
-          pub enough : t .spent .revealed + k .revealed ≤ shown → 0 ≡ check (supplyIn f log shown) c (spentOf t)
+          pub enough : n .revealed + k .revealed ≤ shown → 0 ≡ check (supplyIn f log shown) c (spentBy n marks)
           unfolding check
           enough h =
               rw (
@@ -78,6 +80,9 @@ module _ (f : Frame) (log shown : ℕ) (t : Table) {k : Counts} (c : Cost) (e : 
                 passes _ _ _ _ (ap (λ (v : Counts). v .inputs) e) inputs,
                 passes _ _ _ _ (ap (λ (v : Counts). v .masks) e) masks,
                 passes _ _ _ _ (ap (λ (v : Counts). v .triples) e) triples,
-                le-leb ((t .spent .openings + c .openings) * f .n) log (rw (sym (ap (λ (v : Counts). v .openings) e)) room),
+                le-leb ((n .openings + c .openings) * f .n) log (rw (sym (ap (λ (v : Counts). v .openings) e)) room),
                 passes _ _ _ _ (ap (λ (v : Counts). v .revealed) e) h,
               )
+
+pub product-fits : (x y : ℕ) {b : ℕ} → x * y ≤ b → b < 2 ^ 64 → Fits w64 (x * y)
+product-fits x y h k = record { fits = omega arith }

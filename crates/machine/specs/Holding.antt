@@ -1,6 +1,7 @@
 -- What the code's table, frame and lent buffers hold of the paper's state, and what a command's method promises.
 -- Assumes nothing.
 use mathlib.Core.Path.{_≡_}
+use mathlib.Core.Bool.{Bool}
 use mathlib.Core.List.{List}
 use Prim.Native.Nat.{ℕ, _+_, _*_, _≤_}
 use lib.Dec.{T}
@@ -14,19 +15,16 @@ use Rattle.model.specs.Sheet.{rowsAt, masksFrom, triplesFrom}
 use Rattle.model.specs.Run.{Spent, State, Supply, written, check, finish}
 use Rattle.sheet.specs.declared.frame.Frame.{Frame}
 use Rattle.sheet.specs.Framed.{Framed, settingIn}
+use Rattle.machine.specs.declared.table.Counts.{Counts}
 use Rattle.machine.specs.declared.table.Table.{Table}
 use Rattle.machine.specs.Tables.{countsOf, paid}
 
+abbrev pub spentBy : Counts → List Bool → Spent
+spentBy n marks =
+    record { inputs = n .inputs; masks = n .masks; triples = n .triples; openings = n .openings; revealed = n .revealed; marks = marks }
+
 abbrev pub spentOf : Table → Spent
-spentOf t =
-    record {
-      inputs = t .spent .inputs;
-      masks = t .spent .masks;
-      triples = t .spent .triples;
-      openings = t .spent .openings;
-      revealed = t .spent .revealed;
-      marks = t .marks;
-    }
+spentOf t = spentBy (t .spent) (t .marks)
 
 -- input, deal and supply of a sheet, at the places of its frame
 abbrev pub inputsOf : List ℕ → Frame → List Row

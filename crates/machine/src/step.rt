@@ -9,6 +9,7 @@ ghost use Rattle.sheet.specs.Framed.{Framed};
 ghost use Rattle.script.specs.Meaning.{meant};
 ghost use Rattle.machine.specs.Tables.{paid};
 ghost use Rattle.machine.specs.Holding.{Ready, Afforded, Performs, Tries};
+use crate::check;
 use crate::cost;
 use crate::table::Counts;
 use crate::table::Table;
@@ -74,7 +75,9 @@ impl Table {
         ensures { λ r. ⌜ Tries (now (s .entry)) f (meant c) self (now (log .entry)) (now (revealed .entry)) (r .number) (r .table) (now (log .exit)) (now (revealed .exit)) ⌝ }
     {
         let k = cost::cost(f, c);
-        let number = self.check(f, c, k, log.len(), revealed.len());
+        let marks = self.marks;
+        let spent = self.spent;
+        let number = check::check(marks, spent, f, c, k, log.len(), revealed.len());
         if number != 0 {
             return Stepped {
                 number,

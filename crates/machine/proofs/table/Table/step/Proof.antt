@@ -18,30 +18,30 @@ cost-requires c κs =
 
 check-requires : tie.Need-check-requires
 check-requires c κs =
-    let s = c .before .before .before .before in
+    let s = c .before .before .before .before .before .before in
     let h = s .pre in
-    let e = c .cost .ensures in
+    let A = h .2 in
+    let e = c .before .before .cost .ensures in
     let f = s .args .f in
-    (h .2, rw e (few (f .p) (f .largest) (f .l) (l-most (h .0)) (omega (arith, field-of (h .0) .k-most)) _ (h .1)), n-most (h .0), e, h .1)
+    (A .inputs, A .masks, A .triples, A .room, A .space, rw e (few (f .p) (f .largest) (f .l) (l-most (h .0)) (omega (arith, field-of (h .0) .k-most)) _ (h .1)), n-most (h .0), e, h .1)
 
 returns : tie.Need-returns
-returns c =
-    (c .before .check .ensures, λ z. absurd (c .if1 .taken z), λ _. (refl, refl, refl))
+returns c = (c .before .check .ensures, λ z. absurd (c .if1 .taken z), λ _. (refl, refl, refl))
 
 perform-requires : tie.Need-perform-requires
 perform-requires c κs =
-    let s = c .before .before .before .before .before .before .before .before in
+    let s = c .before .before .before .before .before .before .before .before .before .before in
     let h = s .pre in
     let e = sym (c .before .before .before .check .ensures) ∙ c .before .before .if1 .left in
     (ready (h .0) _ _ (s .args .self) _ e (h .1), shows (h .0) _ _ (s .args .self) _ e)
 
 pay-requires : tie.Need-pay-requires
 pay-requires c κs =
-    let s = c .before .before .before .before .before .before .before .before .before .before .before .before .before in
+    let s = c .before .before .before .before .before .before .before .before .before .before .before .before .before .before .before in
     let h = s .pre in
     let e = sym (c .before .before .before .before .before .before .before .before .check .ensures) ∙ c .before .before .before .before .before .before .before .if1 .left in
     fits (h .0) (length (now (s .args .log))) (length (now (s .args .revealed))) (s .args .self) (meant (s .args .c)) e (c .before .before .before .before .perform .result)
-    (c .before .before .before .before .perform .ensures .0) (c .before .before .before .before .before .before .before .before .before .cost .ensures) (omega arith) (omega arith)
+    (c .before .before .before .before .perform .ensures .0) (c .before .before .before .before .before .before .before .before .before .before .before .cost .ensures) (omega arith) (omega arith)
 
 same-length : tie.Need-same-length
 same-length c = search needs
@@ -51,10 +51,10 @@ same-length-2 c = search needs
 
 returns-2 : tie.Need-returns-2
 returns-2 c =
-    let s = c .before .before .before .before .before .before .before .before .before .before .before .before .before .before in
+    let s = c .before .before .before .before .before .before .before .before .before .before .before .before .before .before .before .before in
     let h = s .pre in
     let done = c .before .before .before .before .before .perform in
-    let k = c .before .before .before .before .before .before .before .before .before .before .cost .ensures in
+    let k = c .before .before .before .before .before .before .before .before .before .before .before .before .cost .ensures in
     let e = sym (c .before .before .before .before .before .before .before .before .before .check .ensures) ∙ c .before .before .before .before .before .before .before .before .if1 .left in (
       sym e,
       λ _. (

@@ -1,11 +1,11 @@
--- `Table::reads_set` meets its contract: by the command.
+-- `check::reads_set` meets its contract: by the command.
 -- Assumes nothing.
 use borrow.Author.Needs.{needs}
 use Rattle.model.specs.Costs.{cost}
 use Rattle.model.specs.Run.{allSet}
 use Rattle.machine.proofs.Ranging.{ranged}
-use Rattle.machine.proofs.table.Table.reads_set.Statement.{statement}
-use Rattle.machine.proofs.table.Table.reads_set.Tie as tie
+use Rattle.machine.proofs.check.reads_set.Statement.{statement}
+use Rattle.machine.proofs.check.reads_set.Tie as tie
 
 enum-told : tie.Need-enum-told
 enum-told c = search needs
