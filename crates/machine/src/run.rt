@@ -46,15 +46,14 @@ fn run_script(f: Frame, s: &[u8], script: &[u8], log: &mut [u32], revealed: &mut
             };
         }
         let done = table.step(f, s, log, revealed, c);
-        let left = done.table;
+        table = done.table;
         if done.number != 0 {
             return Answer {
                 number: done.number,
                 place: at,
-                table: left,
+                table,
             };
         }
-        table = left;
         at = next;
     }
 }
