@@ -33,18 +33,17 @@ countsOf c = record { inputs = c .inputs; masks = c .masks; triples = c .triples
 abbrev pub counted : ℕ → ℕ → ℕ → ℕ → ℕ → Counts
 counted i m t o r = record { inputs = i; masks = m; triples = t; openings = o; revealed = r }
 
+-- what was spent before, and then
+abbrev pub more : Counts → Counts → Counts
+more x k =
+    record {
+      inputs = x .inputs + k .inputs;
+      masks = x .masks + k .masks;
+      triples = x .triples + k .triples;
+      openings = x .openings + k .openings;
+      revealed = x .revealed + k .revealed;
+    }
+
 -- the table with so much paid
 unfoldable pub paid : Table → Counts → Table
-paid t c =
-    record {
-      cells = t .cells;
-      marks = t .marks;
-      spent =
-          record {
-            inputs = t .spent .inputs + c .inputs;
-            masks = t .spent .masks + c .masks;
-            triples = t .spent .triples + c .triples;
-            openings = t .spent .openings + c .openings;
-            revealed = t .spent .revealed + c .revealed;
-          };
-    }
+paid t k = record { cells = t .cells; marks = t .marks; spent = more (t .spent) k }

@@ -7,7 +7,7 @@ ghost use Rattle.model.specs.Script as Script;
 ghost use Rattle.model.specs.Costs as Costs;
 ghost use Rattle.sheet.specs.Framed.{Framed};
 ghost use Rattle.script.specs.Meaning.{meant};
-ghost use Rattle.machine.specs.Tables.{paid};
+ghost use Rattle.machine.specs.Tables.{more};
 ghost use Rattle.machine.specs.Holding.{Ready, Afforded, Performs, Tries};
 use crate::check;
 use crate::cost;
@@ -22,23 +22,21 @@ pub struct Stepped {
     pub table: Table,
 }
 
-impl Table {
-    // "Inputs counts the finished LOADs; masks, triples and openings are the sums of what is spent over the finished commands."
-    fn pay(mut self, k: Counts) -> Table
-        requires { ⌜ (self .spent .inputs + k .inputs < 2 ^ 64) × (self .spent .masks + k .masks < 2 ^ 64) × (self .spent .triples + k .triples < 2 ^ 64) × (self .spent .openings + k .openings < 2 ^ 64) × (self .spent .revealed + k .revealed < 2 ^ 64) ⌝ }
-        ensures { λ r. ⌜ r ≡ paid self k ⌝ }
-    {
-        let spent = Counts {
-            inputs: self.spent.inputs + k.inputs,
-            masks: self.spent.masks + k.masks,
-            triples: self.spent.triples + k.triples,
-            openings: self.spent.openings + k.openings,
-            revealed: self.spent.revealed + k.revealed,
-        };
-        self.spent = spent;
-        self
+// "Inputs counts the finished LOADs; masks, triples and openings are the sums of what is spent over the finished commands."
+fn pay(spent: Counts, k: Counts) -> Counts
+    requires { ⌜ (spent .inputs + k .inputs < 2 ^ 64) × (spent .masks + k .masks < 2 ^ 64) × (spent .triples + k .triples < 2 ^ 64) × (spent .openings + k .openings < 2 ^ 64) × (spent .revealed + k .revealed < 2 ^ 64) ⌝ }
+    ensures { λ r. ⌜ r ≡ more spent k ⌝ }
+{
+    Counts {
+        inputs: spent.inputs + k.inputs,
+        masks: spent.masks + k.masks,
+        triples: spent.triples + k.triples,
+        openings: spent.openings + k.openings,
+        revealed: spent.revealed + k.revealed,
     }
+}
 
+impl Table {
     // A command that the checks let through.
     fn perform(self, f: Frame, s: &[u8], log: &mut [u32], revealed: &mut [u32], c: Command) -> Table
         requires { ⌜ Ready (now s) f (length (now log)) (meant c) self × (self .spent .revealed + Costs.cost (f .l) (meant c) .revealed ≤ length (now revealed)) ⌝ }
@@ -84,8 +82,13 @@ impl Table {
                 table: self,
             };
         }
-        let done = self.perform(f, s, log, revealed, c);
-        let table = done.pay(k);
-        Stepped { number: 0, table }
+        let mut done = self.perform(f, s, log, revealed, c);
+        let before = done.spent;
+        let after = pay(before, k);
+        done.spent = after;
+        Stepped {
+            number: 0,
+            table: done,
+        }
     }
 }

@@ -6,6 +6,7 @@ use lib.ListN.{length}
 use denote.Ref.{now}
 use borrow.Author.Needs.{needs}
 use Rattle.script.specs.Meaning.{meant}
+use Rattle.machine.specs.Tables.{paid}
 use Rattle.machine.proofs.Places.{n-most, l-most, field-of}
 use Rattle.machine.proofs.Stepping.{few, ready, shows, fits, afforded}
 use Rattle.machine.proofs.table.Table.step.Statement.{statement}
@@ -37,11 +38,11 @@ perform-requires c κs =
 
 pay-requires : tie.Need-pay-requires
 pay-requires c κs =
-    let s = c .before .before .before .before .before .before .before .before .before .before .before .before .before .before .before in
+    let s = c .before .before .before .before .before .before .before .before .before .before .before .before .before .before .before .before in
     let h = s .pre in
-    let e = sym (c .before .before .before .before .before .before .before .before .check .ensures) ∙ c .before .before .before .before .before .before .before .if1 .left in
-    fits (h .0) (length (now (s .args .log))) (length (now (s .args .revealed))) (s .args .self) (meant (s .args .c)) e (c .before .before .before .before .perform .result)
-    (c .before .before .before .before .perform .ensures .0) (c .before .before .before .before .before .before .before .before .before .before .before .cost .ensures) (omega arith) (omega arith)
+    let e = sym (c .before .before .before .before .before .before .before .before .before .check .ensures) ∙ c .before .before .before .before .before .before .before .before .if1 .left in
+    fits (h .0) (length (now (s .args .log))) (length (now (s .args .revealed))) (s .args .self) (meant (s .args .c)) e (c .before .before .before .before .before .perform .result)
+    (c .before .before .before .before .before .perform .ensures .0) (c .before .before .before .before .before .before .before .before .before .before .before .before .cost .ensures) (omega arith) (omega arith)
 
 same-length : tie.Need-same-length
 same-length c = search needs
@@ -50,12 +51,13 @@ same-length-2 : tie.Need-same-length-2
 same-length-2 c = search needs
 
 returns-2 : tie.Need-returns-2
+unfolding paid
 returns-2 c =
-    let s = c .before .before .before .before .before .before .before .before .before .before .before .before .before .before .before .before in
+    let s = c .before .before .before .before .before .before .before .before .before .before .before .before .before .before .before .before .before in
     let h = s .pre in
-    let done = c .before .before .before .before .before .perform in
-    let k = c .before .before .before .before .before .before .before .before .before .before .before .before .cost .ensures in
-    let e = sym (c .before .before .before .before .before .before .before .before .before .check .ensures) ∙ c .before .before .before .before .before .before .before .before .if1 .left in (
+    let done = c .before .before .before .before .before .before .perform in
+    let k = c .before .before .before .before .before .before .before .before .before .before .before .before .before .cost .ensures in
+    let e = sym (c .before .before .before .before .before .before .before .before .before .before .check .ensures) ∙ c .before .before .before .before .before .before .before .before .before .if1 .left in (
       sym e,
       λ _. (
         rw (c .pay .ensures)
