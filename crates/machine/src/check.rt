@@ -52,39 +52,19 @@ fn reads_set(marks: [bool; 64], f: Frame, c: Command) -> bool
 {
     match c {
         Command::End => true,
-        Command::Load { d: _ } => true,
-        Command::Const { d: _, v: _ } => true,
-        Command::Add { d: _, a, b } => both_set(marks, a, b),
-        Command::Sub { d: _, a, b } => both_set(marks, a, b),
-        Command::Scale { d: _, a, v: _ } => set(marks, a),
-        Command::Mul { d: _, a, b } => both_set(marks, a, b),
-        Command::Mod {
-            d: _,
-            a,
-            k: _,
-            m: _,
-        } => set(marks, a),
-        Command::Trunc {
-            d: _,
-            a,
-            k: _,
-            m: _,
-        } => set(marks, a),
-        Command::Ltz { d: _, a, k: _ } => set(marks, a),
-        Command::Over {
-            d: _,
-            a,
-            k: _,
-            v: _,
-        } => set(marks, a),
-        Command::Blocks {
-            d: _,
-            a,
-            k: _,
-            m: _,
-        } => set(marks, a),
+        Command::Load { .. } => true,
+        Command::Const { .. } => true,
+        Command::Add { a, b, .. } => both_set(marks, a, b),
+        Command::Sub { a, b, .. } => both_set(marks, a, b),
+        Command::Scale { a, .. } => set(marks, a),
+        Command::Mul { a, b, .. } => both_set(marks, a, b),
+        Command::Mod { a, .. } => set(marks, a),
+        Command::Trunc { a, .. } => set(marks, a),
+        Command::Ltz { a, .. } => set(marks, a),
+        Command::Over { a, .. } => set(marks, a),
+        Command::Blocks { a, .. } => set(marks, a),
         Command::Reveal { a } => set(marks, a),
-        Command::Bitlt { d: _, b, w, v: _ } => run_set(marks, b, w),
+        Command::Bitlt { b, w, .. } => run_set(marks, b, w),
     }
 }
 
