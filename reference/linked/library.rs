@@ -6,53 +6,13 @@
 use reference::case::Case;
 use reference::compare::{Entered, Ran};
 
-extern "C" {
-    fn jundrethol_run(
-        sheet: *const u8,
-        sheet_length: usize,
-        record: *mut u32,
-        record_length: usize,
-        revealed: *mut u32,
-        revealed_length: usize,
-        registers: *mut u32,
-        registers_length: usize,
-        marks: *mut u8,
-        marks_length: usize,
-        counts: *mut u64,
-        counts_length: usize,
-    ) -> u32;
-
-    fn jundrethol_share(
-        field: u32,
-        n: u32,
-        t: u32,
-        secret: u32,
-        coefficients: *const u32,
-        coefficients_length: usize,
-        shares: *mut u32,
-        shares_length: usize,
-    ) -> u32;
-
-    fn jundrethol_recover(
-        field: u32,
-        n: u32,
-        t: u32,
-        secret: *mut u32,
-        row: *const u32,
-        row_length: usize,
-        coefficients: *mut u32,
-        coefficients_length: usize,
-    ) -> u32;
-
-    fn jundrethol_encode(field: u32, k: u32, number: i64, value: *mut u32) -> u32;
-
-    fn jundrethol_decode(field: u32, value: u32, number: *mut i64) -> u32;
-}
+#[path = "../../examples/rust/c.rs"]
+mod c;
 
 /// Runs the sheet.
 pub fn run(ran: &mut Ran, sheet: &[u8]) {
     ran.number = unsafe {
-        jundrethol_run(
+        c::jundrethol_run(
             sheet.as_ptr(),
             sheet.len(),
             ran.record.as_mut_ptr(),
@@ -79,7 +39,7 @@ pub fn enter(case: &Case) -> Entered {
         Case::Share(call) => {
             lent.clone_from(&call.lent);
             let number = unsafe {
-                jundrethol_share(
+                c::jundrethol_share(
                     call.field,
                     call.parties,
                     call.threshold,
@@ -95,7 +55,7 @@ pub fn enter(case: &Case) -> Entered {
         Case::Recover(call) => {
             lent.clone_from(&call.lent);
             let number = unsafe {
-                jundrethol_recover(
+                c::jundrethol_recover(
                     call.field,
                     call.parties,
                     call.threshold,
@@ -109,11 +69,11 @@ pub fn enter(case: &Case) -> Entered {
             (number, i64::from(value))
         }
         Case::Encode { field, k, a } => {
-            let number = unsafe { jundrethol_encode(*field, *k, *a, &mut value) };
+            let number = unsafe { c::jundrethol_encode(*field, *k, *a, &mut value) };
             (number, i64::from(value))
         }
         Case::Decode { field, v } => {
-            let number = unsafe { jundrethol_decode(*field, *v, &mut signed) };
+            let number = unsafe { c::jundrethol_decode(*field, *v, &mut signed) };
             (number, signed)
         }
     };

@@ -22,6 +22,10 @@ and-both false b s t = s
 pub true-false : true ≡ false → ⊥
 true-false q = let z : _≡_ {A = ℕ} 0 1 = cc in omega arith
 
+pub and-true : (b : Bool) → b && true ≡ b
+and-true true = refl
+and-true false = refl
+
 pub is-true : (b : Bool) → T b → b ≡ true
 is-true true t = refl
 is-true false t = absurd t

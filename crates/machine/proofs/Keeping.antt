@@ -3,6 +3,7 @@
 use mathlib.Core.Path.{_≡_, refl, sym, ap, _∙_}
 use mathlib.Core.List.{List, [], _∷_, _++_, append-nil, append-assoc}
 use Prim.Native.Nat.{ℕ, suc, _+_, _-_, _*_, _≤_, _<_}
+use native.Mathlib.Nat.{add-zero}
 use native.Mathlib.Omega.{arith}
 use lib.ListN.{length, getD, set, take, drop, length-append, length-set}
 use lib.Seq.{drop-cons, drop-drop, set-append-seam}
@@ -91,9 +92,6 @@ over-set vs xs v h =
     let e : length (vs ++ (v ∷ [])) ≡ suc (length vs) = length-append vs (v ∷ []) ∙ omega arith in
     rw (drop-cons xs (length vs) 0 h, e) (set-append-seam vs _ _ v ∙ sym (append-assoc vs (v ∷ []) _))
 
-same : (k : ℕ) → k + 0 ≡ k
-same k = omega arith
-
 -- END changes nothing
 pub holds-idle : {s : List ℕ} {f : Frame} {log₀ shown₀ : List ℕ} {t : Table} {log shown : List ℕ} {x : State} → Holds s f log₀ shown₀ t log shown x
     → Holds s f log₀ shown₀ (paid t (countsOf (free [] []))) log shown
@@ -105,8 +103,8 @@ holds-idle {s} {f} {t = t} H =
       marks = H .marks;
       spent = ap (pay (free [] [])) (H .spent);
       registers = H .registers;
-      masks = H .masks ∙ ap (λ (k : ℕ). drop k (dealOf s f .masks)) (sym (same (t .spent .masks)));
-      triples = H .triples ∙ ap (λ (k : ℕ). drop k (dealOf s f .triples)) (sym (same (t .spent .triples)));
+      masks = H .masks ∙ ap (λ (k : ℕ). drop k (dealOf s f .masks)) (sym (add-zero (t .spent .masks)));
+      triples = H .triples ∙ ap (λ (k : ℕ). drop k (dealOf s f .triples)) (sym (add-zero (t .spent .triples)));
       opened = H .opened;
       numbers = H .numbers ∙ omega arith;
       room = omega (arith, H .room);
@@ -144,8 +142,8 @@ module _ {s : List ℕ} {f : Frame} {log₀ shown₀ : List ℕ} {t : Table} {lo
         marks = H .marks;
         spent = ap (pay (revealCost a)) (H .spent);
         registers = H .registers;
-        masks = H .masks ∙ ap (λ (k : ℕ). drop k (dealOf s f .masks)) (sym (same (t .spent .masks)));
-        triples = H .triples ∙ ap (λ (k : ℕ). drop k (dealOf s f .triples)) (sym (same (t .spent .triples)));
+        masks = H .masks ∙ ap (λ (k : ℕ). drop k (dealOf s f .masks)) (sym (add-zero (t .spent .masks)));
+        triples = H .triples ∙ ap (λ (k : ℕ). drop k (dealOf s f .triples)) (sym (add-zero (t .spent .triples)));
         opened = log-then st at last H ea (rw alone el);
         numbers = numbers-more H hn K;
         room = rw (sym (log-length H)) room;

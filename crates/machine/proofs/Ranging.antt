@@ -1,7 +1,6 @@
 -- The operands' ranges of a command that the code has matched.
 -- Assumes nothing.
-use mathlib.Core.Path.{_≡_, refl, subst}
-use mathlib.Core.Bool.{Bool, true, false, _&&_}
+use mathlib.Core.Path.{_≡_, subst}
 use mathlib.Core.List.{List}
 use Prim.Native.Nat.{ℕ}
 use lib.Dec.{T}
@@ -18,7 +17,3 @@ ranged f {c′ = c′} t e = ranges (f .p) (f .largest) (meant c′) (subst (λ 
 
 pub readied : {s : List ℕ} {f : Frame} {log : ℕ} {t : Table} {c c′ : Command} → Ready s f log (meant c) t → c ≡ c′ → Ready s f log (meant c′) t
 readied {s} {f} {log} {t} R e = subst (λ (x : Command). Ready s f log (meant x) t) e R
-
-pub and-true : (b : Bool) → b && true ≡ b
-and-true true = refl
-and-true false = refl

@@ -4,8 +4,7 @@ use mathlib.Core.Path.{_≡_, refl, sym, ap, subst, _∙_}
 use mathlib.Core.Logic.{_≢_}
 use mathlib.Core.Bool.{Bool, true, false, cond}
 use mathlib.Core.List.{List, [], _∷_}
-use Prim.Native.Nat.{ℕ, zero, suc, _+_, _-_, _≤_, _<_}
-use native.Mathlib.Numerals.{sub-one}
+use Prim.Native.Nat.{ℕ, zero, suc, _+_, _-_, _<_}
 use native.Mathlib.Omega.{arith}
 use lib.Dec.{T, eqb}
 use lib.ListN.{length, getD}
@@ -22,9 +21,9 @@ use Rattle.script.specs.declared.command.Decoded.the-variants.{Command as Found
 use Rattle.script.specs.Ends.{isEnd}
 use Rattle.script.specs.Meaning.{meant, numberOf, scriptNumber}
 use Rattle.script.specs.Reading.{readingOf, readingAt}
-use Rattle.script.proofs.Sizes.{size-some}
-use Rattle.script.proofs.Decoding.{FoundAt, found-at, found-in-range, refused-at, passed}
-use Rattle.script.proofs.Scripts.{accepted-at, script-ends-well, script-goes-on, enough}
+use Rattle.script.proofs.Decoding.{FoundAt, found-at, found-in-range, refused-at}
+use Rattle.script.proofs.Scripts.{accepted-at, script-ends-well}
+use Rattle.script.proofs.Turns.{nearer, end-is, next-script}
 use Rattle.machine.specs.declared.table.Table.{Table}
 use Rattle.machine.specs.Tables.{emptyTable}
 use Rattle.machine.specs.Holding.{Holds, Afforded, Tries, inputsOf, dealOf, supplyIn}
@@ -156,30 +155,19 @@ module _ (s script : List ℕ) (f : Frame) (log₀ shown₀ : List ℕ) where
       in-range = found-in-range (f .p) (f .largest) script at here
 
       pub closer : length script - next < length script - at
-      closer =
-          let P = passed (f .p) (f .largest) script at (here .number-is) in
-          let o : 1 ≤ sizeAt script at = size-some script at in
-          omega (arith, P .inside, P .whole, here .next-is)
+      closer = nearer (f .p) (f .largest) script at here
 
       module _ {b : Bool} (g : b ≡ isEnd (meant c)) where
-        end-is : isEnd (commandAt script at) ≡ b
-        end-is = sym (g ∙ ap isEnd (here .command-is))
-
         pub at-end : b ≡ true → Stopped s f log₀ shown₀ whole (record { number = 0; place = at; table = t }) log shown
         unfolding runLines
         at-end q =
-            let a = script-ends-well (f .p) (f .largest) script (suc (length script)) at (omega arith) (here .number-is) (end-is ∙ q) (accepted-number (G .accepts)) in
+            let a = script-ends-well (f .p) (f .largest) script (suc (length script)) at (omega arith) (here .number-is) (end-is (f .p) (f .largest) script at here g ∙ q) (accepted-number (G .accepts)) in
             let w : record { number = 0; place = at; state = G .state } ≡ whole = ap (λ (v : Script). stops v (G .state)) (sym a) ∙ G .run in
             record { number = ap (λ (v : Stop). v .number) w; place = ap (λ (v : Stop). v .place) w; holds = subst (λ (v : Stop). Holds s f log₀ shown₀ t log shown (v .state)) w (G .holds) }
 
         module _ (q : b ≡ false) where
           on : from at ≡ withLine (record { place = at; command = meant c }) (from next)
-          on =
-              let o : 1 ≤ sizeAt script at = size-some script at in
-              let n : scriptFrom (suc (length script) - 1) (f .p) (f .largest) script (at + sizeAt script at) ≡ from next =
-              rw (sub-one, here .next-is) (enough (f .p) (f .largest) script (length script) (suc (length script)) (at + sizeAt script at) (omega arith) (omega arith)) in
-              script-goes-on (f .p) (f .largest) script (suc (length script)) at (omega arith) (here .number-is) (end-is ∙ q)
-              ∙ rw (n, here .command-is)
+          on = next-script (f .p) (f .largest) script at here g q
 
           next-accepts : IsAccepted (from next)
           next-accepts = rest-accepted _ (from next) (subst IsAccepted on (G .accepts))

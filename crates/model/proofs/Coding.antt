@@ -11,7 +11,7 @@ use lib.Dec.{T, ltb, leb, leb·suc-suc, lt→ltb}
 use lib.IntN.{ℤ, pos, negsuc, negℤ, subℕ, _+ℤ_, _*ℤ_}
 use lib.Pow.{pow-pos, pow-mono}
 use lib.Signed.{mag, nonNeg, leZ, ltZ, shrZ}
-use Rattle.algebra.proofs.Tests.{is-true}
+use Rattle.algebra.proofs.Tests.{and-true, is-true}
 use Rattle.model.specs.Fields.{modulus, largestK, Field}
 use Rattle.model.specs.Coding.{inRange, code, readBack, Codes}
 use Rattle.model.proofs.Fields.{fields}
@@ -21,10 +21,6 @@ pub in-range : (k : ℕ) (a : ℤ) → inRange k a ≡ ltb (mag a) (2 ^ (k - 1))
 unfolding inRange
 in-range k a = go (2 ^ (k - 1)) a (pow-pos (k - 1))
   where
-    and-true : (b : Bool) → b && true ≡ b
-    and-true true = refl
-    and-true false = refl
-
     go : (H : ℕ) (a : ℤ) → 0 < H → leZ (negℤ (pos H)) a && ltZ a (pos H) ≡ ltb (mag a) H
     go (suc H) (pos n) h = refl
     go (suc H) (negsuc n) h = and-true (leb n H) ∙ sym (leb·suc-suc n H)

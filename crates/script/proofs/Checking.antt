@@ -4,20 +4,19 @@ use mathlib.Core.Path.{_≡_, refl, sym, ap, _∙_}
 use mathlib.Core.Logic.{_≢_}
 use mathlib.Core.Bool.{Bool, true, false}
 use mathlib.Core.List.{List, []}
-use Prim.Native.Nat.{ℕ, suc, _+_, _-_, _≤_, _<_}
-use native.Mathlib.Numerals.{sub-one}
+use Prim.Native.Nat.{ℕ, suc, _+_, _-_, _<_}
 use native.Mathlib.Omega.{arith}
 use lib.ListN.{length}
-use Rattle.model.specs.Script.{Script, accepted, refused, commandAt, sizeAt, scriptFrom, scriptOf}
+use Rattle.model.specs.Script.{Line, Script, accepted, refused, scriptFrom, scriptOf}
 use Rattle.script.specs.declared.command.Command.{Command}
 use Rattle.script.specs.declared.command.Decoded.{Decoded}
 use Rattle.script.specs.declared.command.Decoded.the-variants.{Command as Found, Refused}
 use Rattle.script.specs.Ends.{isEnd}
 use Rattle.script.specs.Meaning.{meant, numberOf, scriptNumber, scriptPlace}
 use Rattle.script.specs.Reading.{readingOf, readingAt}
-use Rattle.script.proofs.Sizes.{size-some}
-use Rattle.script.proofs.Decoding.{FoundAt, found-at, refused-at, passed}
-use Rattle.script.proofs.Scripts.{script-refused, script-ends, script-past-end, number-goes-on, place-goes-on, end-size, enough}
+use Rattle.script.proofs.Decoding.{FoundAt, found-at, refused-at}
+use Rattle.script.proofs.Scripts.{script-refused, script-ends, script-past-end, end-size, number-line, place-line}
+use Rattle.script.proofs.Turns.{nearer, end-is, next-script}
 
 module _ (p K : ℕ) (s : List ℕ) where
   -- a script with the number and the place of the whole
@@ -49,42 +48,30 @@ module _ (p K : ℕ) (s : List ℕ) where
       here = found-at p K s i e f
 
       pub closer : length s - next < length s - i
-      closer =
-          let P = passed p K s i (here .number-is) in
-          let o : 1 ≤ sizeAt s i = size-some s i in
-          omega (arith, P .inside, P .whole, here .next-is)
+      closer = nearer p K s i here
 
       module _ {b : Bool} (g : b ≡ isEnd (meant c)) where
-        end-is : isEnd (commandAt s i) ≡ b
-        end-is = sym (g ∙ ap isEnd (here .command-is))
-
         after-end : b ≡ true → next ≡ i + 1
-        after-end t = here .next-is ∙ ap (λ (n : ℕ). i + n) (end-size p K s i (here .number-is) (end-is ∙ t))
+        after-end t = here .next-is ∙ ap (λ (n : ℕ). i + n) (end-size p K s i (here .number-is) (end-is p K s i here g ∙ t))
 
         pub at-end : b ≡ true → next ≡ length s → Answers 0 i
         at-end t l =
             answer (accepted [] i)
-            (script-ends p K s (suc (length s)) i (omega arith) (here .number-is) (end-is ∙ t) (sym (after-end t) ∙ l))
+            (script-ends p K s (suc (length s)) i (omega arith) (here .number-is) (end-is p K s i here g ∙ t) (sym (after-end t) ∙ l))
 
         pub past-end : b ≡ true → next ≢ length s → Answers 10 next
         past-end t l =
             let a = after-end t in
             rw a
             (answer (refused 10 (i + 1))
-            (script-past-end p K s (suc (length s)) i (omega arith) (here .number-is) (end-is ∙ t) (λ q. l (a ∙ q))))
+            (script-past-end p K s (suc (length s)) i (omega arith) (here .number-is) (end-is p K s i here g ∙ t) (λ q. l (a ∙ q))))
 
         pub from-next : b ≡ false → From next
         from-next t =
-            let o : 1 ≤ sizeAt s i = size-some s i in
-            let q : scriptFrom (suc (length s)) p K s next ≡ scriptFrom (length s) p K s (i + sizeAt s i) =
-            rw (here .next-is) (enough p K s (suc (length s)) (length s) (i + sizeAt s i) (omega arith) (omega arith)) in
+            let q = next-script p K s i here g t in
+            let x : Line = record { place = i; command = meant c } in
+            let rest : Script = scriptFrom (suc (length s)) p K s next in
             record {
-              number-is =
-                  ap scriptNumber q
-                  ∙ sym (rw sub-one at (number-goes-on p K s (suc (length s)) i (omega arith) (here .number-is) (end-is ∙ t)))
-                  ∙ W .number-is;
-              place-is =
-                  ap scriptPlace q
-                  ∙ sym (rw sub-one at (place-goes-on p K s (suc (length s)) i (omega arith) (here .number-is) (end-is ∙ t)))
-                  ∙ W .place-is;
+              number-is = sym (number-line x rest) ∙ sym (ap scriptNumber q) ∙ W .number-is;
+              place-is = sym (place-line x rest) ∙ sym (ap scriptPlace q) ∙ W .place-is;
             }

@@ -7,9 +7,9 @@ use mathlib.Core.List.{List, []}
 use Prim.Native.Nat.{ℕ, zero, suc, _+_, _-_, _≤_, _<_}
 use native.Mathlib.Numerals.{sub-one}
 use native.Mathlib.Omega.{arith}
-use borrow.Author.Tests.{le-leb, eq-eqb, ne-eqb, eqb-true}
 use lib.Dec.{T, ltb, eqb, ltb→lt}
 use lib.ListN.{length, getD}
+use borrow.Author.Tests.{le-leb, eq-eqb, ne-eqb, eqb-true}
 use Rattle.algebra.proofs.Tests.{is-true, every, every-at}
 use Rattle.model.specs.Script.{Command, END, Line, Script, accepted, refused, commandAt, sizeAt, numberAt, withLine, scriptStep, scriptFrom}
 use Rattle.script.specs.Ends.{isEnd}
@@ -29,11 +29,11 @@ end-first cs t k h = go (isEnd (getD cs k END)) (every-at 14 (endFirst cs) t k (
     go true q = sym (is-true _ q)
     go false q = sym (ne-eqb k 0 (λ z. let l = ltb→lt 0 k q in omega arith))
 
-number-line : (x : Line) (rest : Script) → scriptNumber (withLine x rest) ≡ scriptNumber rest
+pub number-line : (x : Line) (rest : Script) → scriptNumber (withLine x rest) ≡ scriptNumber rest
 number-line x (accepted xs end) = refl
 number-line x (refused number place) = refl
 
-place-line : (x : Line) (rest : Script) → scriptPlace (withLine x rest) ≡ scriptPlace rest
+pub place-line : (x : Line) (rest : Script) → scriptPlace (withLine x rest) ≡ scriptPlace rest
 place-line x (accepted xs end) = refl
 place-line x (refused number place) = refl
 
@@ -77,14 +77,6 @@ module _ (p K : ℕ) (s : List ℕ) where
 
     pub script-goes-on : isEnd (commandAt s i) ≡ false → scriptFrom fuel p K s i ≡ withLine (lineAt i) (scriptFrom (fuel - 1) p K s (i + sizeAt s i))
     script-goes-on f = rw (turn fuel i h, e, ← end-byte i e, f)
-
-    pub number-goes-on : isEnd (commandAt s i) ≡ false
-        → scriptNumber (scriptFrom fuel p K s i) ≡ scriptNumber (scriptFrom (fuel - 1) p K s (i + sizeAt s i))
-    number-goes-on f = ap scriptNumber (script-goes-on f) ∙ number-line (lineAt i) (scriptFrom (fuel - 1) p K s (i + sizeAt s i))
-
-    pub place-goes-on : isEnd (commandAt s i) ≡ false
-        → scriptPlace (scriptFrom fuel p K s i) ≡ scriptPlace (scriptFrom (fuel - 1) p K s (i + sizeAt s i))
-    place-goes-on f = ap scriptPlace (script-goes-on f) ∙ place-line (lineAt i) (scriptFrom (fuel - 1) p K s (i + sizeAt s i))
 
   -- a script that is accepted from a place on has a command there
   pub accepted-at : (fuel i : ℕ) → scriptNumber (scriptFrom fuel p K s i) ≡ 0 → (numberAt p K s i ≡ 0) × (0 < fuel)

@@ -1,8 +1,8 @@
 -- `check::both_set` meets its contract: two marks.
 -- Assumes nothing.
 use borrow.Author.Needs.{needs}
+use Rattle.algebra.proofs.Tests.{and-true}
 use Rattle.model.specs.Run.{allSet}
-use Rattle.machine.proofs.Ranging.{and-true}
 use Rattle.machine.proofs.check.both_set.Statement.{statement}
 use Rattle.machine.proofs.check.both_set.Tie as tie
 

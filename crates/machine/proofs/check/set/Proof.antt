@@ -1,8 +1,8 @@
 -- `check::set` meets its contract: one mark.
 -- Assumes nothing.
 use borrow.Author.Needs.{needs}
+use Rattle.algebra.proofs.Tests.{and-true}
 use Rattle.model.specs.Run.{allSet}
-use Rattle.machine.proofs.Ranging.{and-true}
 use Rattle.machine.proofs.check.set.Statement.{statement}
 use Rattle.machine.proofs.check.set.Tie as tie
 
