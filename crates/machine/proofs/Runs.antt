@@ -26,7 +26,7 @@ use Rattle.script.proofs.Scripts.{accepted-at, script-ends-well}
 use Rattle.script.proofs.Turns.{nearer, end-is, next-script}
 use Rattle.machine.specs.declared.table.Table.{Table}
 use Rattle.machine.specs.Tables.{emptyTable}
-use Rattle.machine.specs.Holding.{Holds, Afforded, Tries, inputsOf, dealOf, supplyIn}
+use Rattle.machine.specs.Holding.{Holds, Afforded, Finishes, spentOf, inputsOf, dealOf, supplyIn}
 use Rattle.machine.specs.Answers.{Stopped, stopFrom}
 use Rattle.machine.proofs.Keeping.{log-length, shown-length}
 
@@ -172,28 +172,26 @@ module _ (s script : List ℕ) (f : Frame) (log₀ shown₀ : List ℕ) where
           next-accepts : IsAccepted (from next)
           next-accepts = rest-accepted _ (from next) (subst IsAccepted on (G .accepts))
 
-          module _ {number : ℕ} {t′ : Table} {log′ shown′ : List ℕ} (S : Tries s f (meant c) t log shown number t′ log′ shown′) where
+          module _ {number : ℕ} (tried : number ≡ check (supplyIn f (length log) (length shown)) (cost (f .l) (meant c)) (spentOf t)) where
             -- what the rest of the run is, by the number
             turn : orElse number at (G .state) (stops (from next) (finish (settingIn f) (inputsOf s f) (meant c) (G .state))) ≡ whole
             turn =
                 let k : number ≡ check (supplyIn f (length log₀) (length shown₀)) (cost (f .l) (meant c)) (G .state .spent) =
-                S .0 ∙ rw (log-length (G .holds), shown-length (G .holds), G .holds .spent) in
+                tried ∙ rw (log-length (G .holds), shown-length (G .holds), G .holds .spent) in
                 rw k (sym (line-stop s f (length log₀) (length shown₀) (record { place = at; command = meant c }) (from next) (G .state) next-accepts)
                 ∙ ap (λ (v : Script). stops v (G .state)) (sym on) ∙ G .run)
 
-            pub at-refusal : number ≢ 0 → Stopped s f log₀ shown₀ whole (record { number = number; place = at; table = t′ }) log′ shown′
+            pub at-refusal : number ≢ 0 → Stopped s f log₀ shown₀ whole (record { number = number; place = at; table = t }) log shown
             at-refusal z =
                 let w : record { number = number; place = at; state = G .state } ≡ whole = sym (or-else number at (G .state) _ z) ∙ turn in
-                let same = S .2 z in
                 record {
                   number = ap (λ (v : Stop). v .number) w;
                   place = ap (λ (v : Stop). v .place) w;
-                  holds = rw (same .0, same .1, same .2) (subst (λ (v : Stop). Holds s f log₀ shown₀ t log shown (v .state)) w (G .holds));
+                  holds = subst (λ (v : Stop). Holds s f log₀ shown₀ t log shown (v .state)) w (G .holds);
                 }
 
-            pub goes-on : number ≡ 0 → Going t′ log′ shown′ next
-            goes-on z =
-                let A = S .1 z in
+            pub goes-on : number ≡ 0 → {t′ : Table} {log′ shown′ : List ℕ} → Finishes s f (meant c) t log shown t′ log′ shown′ → Going t′ log′ shown′ next
+            goes-on z A =
                 let H = A .1 log₀ shown₀ (G .state) (G .holds) in
                 record {
                   state = finish (settingIn f) (inputsOf s f) (meant c) (G .state);

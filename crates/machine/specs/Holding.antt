@@ -12,7 +12,7 @@ use Rattle.model.specs.Steps.{Row, Deal}
 use Rattle.model.specs.Script.{Command, inRanges}
 use Rattle.model.specs.Costs.{cost}
 use Rattle.model.specs.Sheet.{rowsAt, masksFrom, triplesFrom}
-use Rattle.model.specs.Run.{Spent, State, Supply, written, check, finish}
+use Rattle.model.specs.Run.{Spent, State, Supply, written, finish}
 use Rattle.sheet.specs.declared.frame.Frame.{Frame}
 use Rattle.sheet.specs.Framed.{Framed, settingIn}
 use Rattle.machine.specs.declared.table.Counts.{Counts}
@@ -86,11 +86,8 @@ Performs s f c t log shown t′ log′ shown′ =
     × ((log₀ shown₀ : List ℕ) (x : State) → Holds s f log₀ shown₀ t log shown x
     → Holds s f log₀ shown₀ (paid t′ (countsOf (cost (f .l) c))) log′ shown′ (finish (settingIn f) (inputsOf s f) c x))
 
--- A command tried: the number of the checks, and either all of it or nothing.
-abbrev pub Tries : List ℕ → Frame → Command → Table → List ℕ → List ℕ → ℕ → Table → List ℕ → List ℕ → Type 0
-Tries s f c t log shown number t′ log′ shown′ =
-    (number ≡ check (supplyIn f (length log) (length shown)) (cost (f .l) c) (spentOf t))
-    × (number ≡ 0
-    → Afforded f (length log) (length shown) t′
-    × ((log₀ shown₀ : List ℕ) (x : State) → Holds s f log₀ shown₀ t log shown x → Holds s f log₀ shown₀ t′ log′ shown′ (finish (settingIn f) (inputsOf s f) c x)))
-    × ((number ≡ 0 → ⊥) → (t′ ≡ t) × (log′ ≡ log) × (shown′ ≡ shown))
+-- A command finished: performed, and its cost paid.
+abbrev pub Finishes : List ℕ → Frame → Command → Table → List ℕ → List ℕ → Table → List ℕ → List ℕ → Type 0
+Finishes s f c t log shown t′ log′ shown′ =
+    Afforded f (length log) (length shown) t′
+    × ((log₀ shown₀ : List ℕ) (x : State) → Holds s f log₀ shown₀ t log shown x → Holds s f log₀ shown₀ t′ log′ shown′ (finish (settingIn f) (inputsOf s f) c x))

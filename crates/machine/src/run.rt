@@ -8,8 +8,9 @@ ghost use Rattle.sheet.specs.Reading.{numberOf};
 ghost use Rattle.script.specs.Meaning.{scriptNumber};
 ghost use Rattle.machine.specs.Holding.{dealOf};
 ghost use Rattle.machine.specs.Answers.{Stopped, stopFrom, refusedAnswer, outcomeOf};
+use crate::check;
+use crate::cost;
 use crate::table::Table;
-use script::check;
 use script::command::Decoded;
 use script::decode;
 use sheet::frame::Frame;
@@ -22,7 +23,8 @@ pub struct Answer {
     pub table: Table,
 }
 
-// The run of a script that 9 to 11 do not refuse, command by command: "a refused one ends the run".
+// The run of a script that 9 to 11 do not refuse, command by command: each is "tried before a command changes anything", and "a refused one
+// ends the run".
 fn run_script(f: Frame, s: &[u8], script: &[u8], log: &mut [u32], revealed: &mut [u32]) -> Answer
     requires { ⌜ Framed (now s) f × (scriptNumber (Script.scriptOf (f .p) (f .largest) (now script)) ≡ 0) ⌝ }
     ensures { λ r. ⌜ Stopped (now (s .entry)) f (now (log .entry)) (now (revealed .entry)) (stopFrom (now (s .entry)) f (length (now (log .entry))) (length (now (revealed .entry))) (Script.scriptOf (f .p) (f .largest) (now (script .entry))) (Run.start (dealOf (now (s .entry)) f))) r (now (log .exit)) (now (revealed .exit)) ⌝ }
@@ -45,15 +47,18 @@ fn run_script(f: Frame, s: &[u8], script: &[u8], log: &mut [u32], revealed: &mut
                 table,
             };
         }
-        let done = table.step(f, s, log, revealed, c);
-        table = done.table;
-        if done.number != 0 {
+        let k = cost::cost(f, c);
+        let marks = table.marks;
+        let spent = table.spent;
+        let number = check::check(marks, spent, f, c, k, log.len(), revealed.len());
+        if number != 0 {
             return Answer {
-                number: done.number,
+                number,
                 place: at,
                 table,
             };
         }
+        table = table.step(f, s, log, revealed, c, k);
         at = next;
     }
 }
@@ -89,7 +94,7 @@ pub fn run(sheet: &[u8], log: &mut [u32], revealed: &mut [u32]) -> Answer
         return refused(refusal(read), 0);
     };
     let end = f.input;
-    let script = check::check_script(f.p, f.largest, &sheet[11..end]);
+    let script = script::check::check_script(f.p, f.largest, &sheet[11..end]);
     if script.number != 0 {
         return refused(script.number, script.place);
     }

@@ -1,26 +1,19 @@
-// One command: tried, performed and paid.
+// One command: performed and paid.
 ghost use mathlib.Core.Path.{_≡_};
 ghost use Prim.Native.Nat.{_+_, _^_, _≤_, _<_};
 ghost use lib.Dec.{T};
 ghost use lib.ListN.{length};
 ghost use Rattle.model.specs.Script as Script;
 ghost use Rattle.model.specs.Costs as Costs;
+ghost use Rattle.model.specs.Run as Run;
 ghost use Rattle.sheet.specs.Framed.{Framed};
 ghost use Rattle.script.specs.Meaning.{meant};
-ghost use Rattle.machine.specs.Tables.{more};
-ghost use Rattle.machine.specs.Holding.{Ready, Afforded, Performs, Tries};
-use crate::check;
-use crate::cost;
+ghost use Rattle.machine.specs.Tables.{countsOf, more};
+ghost use Rattle.machine.specs.Holding.{Ready, Performs, Finishes, spentOf, supplyIn};
 use crate::table::Counts;
 use crate::table::Table;
 use script::command::Command;
 use sheet::frame::Frame;
-
-// The number of the checks, and the table after the command, or as it was.
-pub struct Stepped {
-    pub number: u32,
-    pub table: Table,
-}
 
 // "Inputs counts the finished LOADs; masks, triples and openings are the sums of what is spent over the finished commands."
 fn pay(spent: Counts, k: Counts) -> Counts
@@ -37,7 +30,7 @@ fn pay(spent: Counts, k: Counts) -> Counts
 }
 
 impl Table {
-    // A command that the checks let through.
+    // The command's method.
     fn perform(self, f: Frame, s: &[u8], log: &mut [u32], revealed: &mut [u32], c: Command) -> Table
         requires { ⌜ Ready (now s) f (length (now log)) (meant c) self × (self .spent .revealed + Costs.cost (f .l) (meant c) .revealed ≤ length (now revealed)) ⌝ }
         ensures { λ r. ⌜ Performs (now (s .entry)) f (meant c) self (now (log .entry)) (now (revealed .entry)) r (now (log .exit)) (now (revealed .exit)) ⌝ }
@@ -60,7 +53,7 @@ impl Table {
         }
     }
 
-    // "Tried before a command changes anything": either all of the command, or nothing and the number of the first check that refuses.
+    // A command that the checks let through, whose cost is k.
     pub fn step(
         self,
         f: Frame,
@@ -68,27 +61,15 @@ impl Table {
         log: &mut [u32],
         revealed: &mut [u32],
         c: Command,
-    ) -> Stepped
-        requires { ⌜ Framed (now s) f × T (Script.inRanges (f .p) (f .largest) (meant c)) × Afforded f (length (now log)) (length (now revealed)) self ⌝ }
-        ensures { λ r. ⌜ Tries (now (s .entry)) f (meant c) self (now (log .entry)) (now (revealed .entry)) (r .number) (r .table) (now (log .exit)) (now (revealed .exit)) ⌝ }
+        k: Counts,
+    ) -> Table
+        requires { ⌜ Framed (now s) f × T (Script.inRanges (f .p) (f .largest) (meant c)) × (Run.check (supplyIn f (length (now log)) (length (now revealed))) (Costs.cost (f .l) (meant c)) (spentOf self) ≡ 0) × (k ≡ countsOf (Costs.cost (f .l) (meant c))) ⌝ }
+        ensures { λ r. ⌜ Finishes (now (s .entry)) f (meant c) self (now (log .entry)) (now (revealed .entry)) r (now (log .exit)) (now (revealed .exit)) ⌝ }
     {
-        let k = cost::cost(f, c);
-        let marks = self.marks;
-        let spent = self.spent;
-        let number = check::check(marks, spent, f, c, k, log.len(), revealed.len());
-        if number != 0 {
-            return Stepped {
-                number,
-                table: self,
-            };
-        }
         let mut done = self.perform(f, s, log, revealed, c);
         let before = done.spent;
         let after = pay(before, k);
         done.spent = after;
-        Stepped {
-            number: 0,
-            table: done,
-        }
+        done
     }
 }

@@ -1,10 +1,13 @@
 -- `run::run_script` meets its contract: the run from here on is the run of the whole script.
 -- Assumes nothing.
-use mathlib.Core.Path.{_≡_, refl}
+use mathlib.Core.Path.{_≡_, refl, sym, _∙_}
 use Prim.Native.Nat.{_-_}
+use native.Mathlib.Omega.{arith}
 use lib.ListN.{length}
 use borrow.Author.Needs.{needs}
 use Rattle.machine.proofs.Keeping.{log-length, shown-length}
+use Rattle.machine.proofs.Places.{n-most, l-most, field-of}
+use Rattle.machine.proofs.Stepping.{few}
 use Rattle.machine.proofs.Runs.{Going, going-start, never-refused, in-range, closer, at-end, at-refusal, goes-on}
 use Rattle.machine.proofs.run.run_script.Statement.{statement}
 use Rattle.machine.proofs.run.run_script.Tie as tie
@@ -56,11 +59,22 @@ returns-2 : tie.Need-returns-2 Inv-loop μ-loop
 returns-2 c =
     at-end _ _ _ _ _ (c .before .before .before .before .before .before .loop .inv .2) (c .before .before .before .before .before .decode .ensures) (c .before .before .before .found .given .1) (c .before .is-end .ensures) (c .if1 .taken)
 
-step-requires : tie.Need-step-requires Inv-loop μ-loop
-step-requires c κs =
-    let s = c .before .before .before .before .before .before .before .before .before .before .before .before .before .before in
-    let G = c .before .before .before .before .before .before .before .before .loop .inv .2 in
-    (s .pre .0, in-range _ _ _ _ _ G (c .before .before .before .before .before .before .before .decode .ensures) (c .before .before .before .before .before .found .given .1), G .afforded)
+-- From here on the command is known and is not END: b is the place after that test.
+cost-requires : tie.Need-cost-requires Inv-loop μ-loop
+cost-requires c κs =
+    let F = c .before .before .before .before .before .before .before .before .before .before .before .before .pre .0 in
+    (l-most F, omega (arith, field-of F .k-most), in-range _ _ _ _ _ (c .before .before .before .before .before .before .loop .inv .2) (c .before .before .before .before .before .decode .ensures) (c .before .before .before .found .given .1))
+
+check-requires : tie.Need-check-requires Inv-loop μ-loop
+check-requires c κs =
+    let b = c .before .before .before in
+    let F = b .before .before .before .before .before .before .before .before .before .before .before .before .pre .0 in
+    let f = b .before .before .before .before .before .before .before .before .before .before .before .before .args .f in
+    let G = b .before .before .before .before .before .before .loop .inv .2 in
+    let A = G .afforded in
+    let r = in-range _ _ _ _ _ G (b .before .before .before .before .before .decode .ensures) (b .before .before .before .found .given .1) in
+    let e = c .before .before .cost .ensures in
+    (A .inputs, A .masks, A .triples, A .room, A .space, rw e (few (f .p) (f .largest) (f .l) (l-most F) (omega (arith, field-of F .k-most)) _ r), n-most F, e, r)
 
 same-length-5 : tie.Need-same-length-5 Inv-loop μ-loop
 same-length-5 c = search needs
@@ -70,14 +84,28 @@ same-length-6 c = search needs
 
 returns-3 : tie.Need-returns-3 Inv-loop μ-loop
 returns-3 c =
-    at-refusal _ _ _ _ _ (c .before .before .before .before .before .before .before .before .before .before .before .before .before .before .before .before .loop .inv .2) (c .before .before .before .before .before .before .before .before .before .before .before .before .before .before .before .decode .ensures) (c .before .before .before .before .before .before .before .before .before .before .before .before .before .found .given .1) (c .before .before .before .before .before .before .before .before .before .before .before .is-end .ensures) (c .before .before .before .before .before .before .before .before .before .before .if1 .left) (c .before .before .before .before .before .before .before .step .ensures) (c .if2 .taken)
+    let b = c .before .before .before .before .before in
+    at-refusal _ _ _ _ _ (b .before .before .before .before .before .before .loop .inv .2) (b .before .before .before .before .before .decode .ensures) (b .before .before .before .found .given .1) (b .before .is-end .ensures) (b .if1 .left) (c .before .check .ensures) (c .if2 .taken)
+
+step-requires : tie.Need-step-requires Inv-loop μ-loop
+step-requires c κs =
+    let b = c .before .before .before .before .before .before .before in
+    let G = b .before .before .before .before .before .before .loop .inv .2 in (
+      b .before .before .before .before .before .before .before .before .before .before .before .before .pre .0,
+      in-range _ _ _ _ _ G (b .before .before .before .before .before .decode .ensures) (b .before .before .before .found .given .1),
+      sym (c .before .before .before .check .ensures) ∙ c .before .before .if2 .left,
+      c .before .before .before .before .before .before .cost .ensures,
+    )
 
 loop-less : tie.Need-loop-less Inv-loop μ-loop
-loop-less c = closer _ _ _ _ _ (c .before .before .before .before .before .before .before .before .before .before .before .before .before .before .before .before .loop .inv .2) (c .before .before .before .before .before .before .before .before .before .before .before .before .before .before .before .decode .ensures) (c .before .before .before .before .before .before .before .before .before .before .before .before .before .found .given .1)
+loop-less c =
+    let b = c .before .before .before .before .before .before .before .before .before .before .before .before in
+    closer _ _ _ _ _ (b .before .before .before .before .before .before .loop .inv .2) (b .before .before .before .before .before .decode .ensures) (b .before .before .before .found .given .1)
 
 loop-again : tie.Need-loop-again Inv-loop μ-loop
 loop-again c =
-    let G = goes-on _ _ _ _ _ (c .before .before .before .before .before .before .before .before .before .before .before .before .before .before .before .before .loop .inv .2) (c .before .before .before .before .before .before .before .before .before .before .before .before .before .before .before .decode .ensures) (c .before .before .before .before .before .before .before .before .before .before .before .before .before .found .given .1) (c .before .before .before .before .before .before .before .before .before .before .before .is-end .ensures) (c .before .before .before .before .before .before .before .before .before .before .if1 .left) (c .before .before .before .before .before .before .before .step .ensures) (c .if2 .left) in
+    let b = c .before .before .before .before .before .before .before .before .before .before .before .before in
+    let G = goes-on _ _ _ _ _ (b .before .before .before .before .before .before .loop .inv .2) (b .before .before .before .before .before .decode .ensures) (b .before .before .before .found .given .1) (b .before .is-end .ensures) (b .if1 .left) (c .before .before .before .before .before .before .before .before .check .ensures) (c .before .before .before .before .before .before .before .if2 .left) (c .before .before .before .before .step .ensures) in
     (log-length (G .holds), shown-length (G .holds), G)
 
 pub run-script-spec : {M : Type 1} → statement M
@@ -99,9 +127,11 @@ run-script-spec =
     same-length-3
     same-length-4
     returns-2
-    step-requires
+    cost-requires
+    check-requires
     same-length-5
     same-length-6
     returns-3
+    step-requires
     loop-less
     loop-again)
