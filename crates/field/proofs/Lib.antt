@@ -1,3 +1,4 @@
 pub mod Residues
 pub mod Signs
 pub mod Answers
+pub mod Entries

@@ -1,13 +1,10 @@
-// The constant table of the four fields, by field number.
+// "Four fields are held in one constant table", by field number.
 ghost use mathlib.Core.Path.{_≡_};
 ghost use Prim.Native.Nat.{_<_};
 ghost use Rattle.model.specs.Fields as Fields;
 
-const MODULI: [u32; 4] = [13, 251, 65521, 2147483647];
-
-const BITS: [u32; 4] = [4, 8, 16, 31];
-
-const LARGEST_K: [u32; 4] = [3, 7, 15, 30];
+// Three to a field: p, its bit length, and the largest k.
+const FIELDS: [u32; 12] = [13, 4, 3, 251, 8, 7, 65521, 16, 15, 2147483647, 31, 30];
 
 // Eight to a field: the inverses of 0 to 7, with 0 for that of 0.
 const INVERSES: [u32; 32] = [
@@ -49,21 +46,21 @@ pub fn modulus(field: usize) -> u32
     requires { ⌜ field < 4 ⌝ }
     ensures { λ r. ⌜ (r ≡ Fields.modulus field) × Fields.Modulus r ⌝ }
 {
-    MODULI[field]
+    FIELDS[3 * field]
 }
 
 pub fn bits(field: usize) -> u32
     requires { ⌜ field < 4 ⌝ }
     ensures { λ r. ⌜ r ≡ Fields.bits field ⌝ }
 {
-    BITS[field]
+    FIELDS[3 * field + 1]
 }
 
 pub fn largest_k(field: usize) -> u32
     requires { ⌜ field < 4 ⌝ }
     ensures { λ r. ⌜ r ≡ Fields.largestK field ⌝ }
 {
-    LARGEST_K[field]
+    FIELDS[3 * field + 2]
 }
 
 // 1/d modulo p, and 0 for d = 0.

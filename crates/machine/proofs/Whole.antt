@@ -10,7 +10,7 @@ use Rattle.algebra.specs.Lists.{over}
 use Rattle.model.specs.Bytes.{sevens}
 use Rattle.model.specs.Script.{Script, accepted, refused, scriptOf}
 use Rattle.model.specs.Sheet.{headerOf, settingOf, inputIn, dealIn, scriptIn, sheetNumber}
-use Rattle.model.specs.Run.{Stop, start, nothingSpent, written, outcome, refusedInput, supplyOf, runScript, sheetScript, stopOf, run}
+use Rattle.model.specs.Run.{Spent, Stop, start, nothingSpent, written, outcome, refusedInput, supplyOf, runScript, sheetScript, stopOf, run}
 use Rattle.sheet.specs.declared.frame.Frame.{Frame}
 use Rattle.sheet.specs.Framed.{Framed, settingIn}
 use Rattle.script.specs.Meaning.{scriptNumber, scriptPlace}
@@ -82,31 +82,47 @@ script-stops s log shown (accepted xs end) z = absurd (z refl)
 script-stops s log shown (refused number place) z = refl
 
 module _ (s log₀ shown₀ : List ℕ) where
-  pub sheet-refused : (number : ℕ) → number ≡ sheetNumber s → number ≢ 0 → outcomeOf (refusedAnswer number 0) log₀ shown₀ ≡ run s log₀ shown₀
-  unfolding run stopOf
+  abbrev stop : Stop
+  stop = stopOf s (length log₀) (length shown₀)
+
+  -- the promise of `run::run`
+  abbrev Answered : Answer → List ℕ → List ℕ → Type 0
+  Answered a log shown = (outcomeOf a log shown ≡ run s log₀ shown₀) × (a .table .spent .revealed ≡ stop .state .spent .revealed)
+
+  refused-answer : (number place : ℕ) → stop ≡ refusedInput number place → Answered (refusedAnswer number place) log₀ shown₀
+  unfolding run emptyTable start nothingSpent
+  refused-answer number place e = (
+    refused-outcome (headerOf s .n) number place log₀ shown₀ ∙ ap (outcome (headerOf s .n) log₀ shown₀) (sym e),
+    ap (λ (x : Stop). x .state .spent .revealed) (sym e),
+  )
+
+  pub sheet-refused : (number : ℕ) → number ≡ sheetNumber s → number ≢ 0 → Answered (refusedAnswer number 0) log₀ shown₀
+  unfolding stopOf
   sheet-refused zero e z = absurd (z refl)
-  sheet-refused (suc number) e z = refused-outcome (headerOf s .n) (suc number) 0 log₀ shown₀ ∙ rw (sym e)
+  sheet-refused (suc number) e z = refused-answer (suc number) 0 (rw (sym e))
 
   module _ {f : Frame} (F : Framed s f) (e : 0 ≡ sheetNumber s) where
-    accepted-run : run s log₀ shown₀ ≡ outcome (headerOf s .n) log₀ shown₀ (runScript (headerOf s) s (length log₀) (length shown₀) (sheetScript s))
-    unfolding run stopOf
-    accepted-run = rw (sym e)
+    accepted-stop : stop ≡ runScript (headerOf s) s (length log₀) (length shown₀) (sheetScript s)
+    unfolding stopOf
+    accepted-stop = rw (sym e)
 
     abbrev script : Script
     script = scriptOf (f .p) (f .largest) (take (f .input - 11) (drop 11 s))
 
     pub script-refused : {number place : ℕ} → (number ≡ scriptNumber script) × (place ≡ scriptPlace script) → number ≢ 0
-        → outcomeOf (refusedAnswer number place) log₀ shown₀ ≡ run s log₀ shown₀
+        → Answered (refusedAnswer number place) log₀ shown₀
     script-refused {number} {place} q z =
         let k : scriptNumber (sheetScript s) ≢ 0 = λ r. z (q .0 ∙ ap scriptNumber (script-is F) ∙ r) in
-        refused-outcome (headerOf s .n) number place log₀ shown₀
-        ∙ rw (q .0, q .1, script-is F) (ap (outcome (headerOf s .n) log₀ shown₀) (sym (script-stops s (length log₀) (length shown₀) (sheetScript s) k)))
-        ∙ sym accepted-run
+        refused-answer number place
+        (accepted-stop ∙ script-stops s (length log₀) (length shown₀) (sheetScript s) k ∙ rw (q .0, q .1, script-is F))
 
     pub script-run : {a : Answer} {log shown : List ℕ} → scriptNumber script ≡ 0
-        → Stopped s f log₀ shown₀ (stopFrom s f (length log₀) (length shown₀) script (start (dealOf s f))) a log shown → outcomeOf a log shown ≡ run s log₀ shown₀
-    unfolding scriptOf
+        → Stopped s f log₀ shown₀ (stopFrom s f (length log₀) (length shown₀) script (start (dealOf s f))) a log shown → Answered a log shown
+    unfolding scriptOf run
     script-run z A =
         let accepts : IsAccepted script = number-accepted (f .p) (f .largest) (take (f .input - 11) (drop 11 s)) _ 0 z in
-        stopped-outcome A ∙ ap (outcome (f .n) log₀ shown₀) (stop-is F (length log₀) (length shown₀) script accepts)
-        ∙ rw (script-is F, F .n-is) (sym accepted-run)
+        let w : stopFrom s f (length log₀) (length shown₀) script (start (dealOf s f)) ≡ stop =
+        stop-is F (length log₀) (length shown₀) script accepts ∙ ap (runScript (headerOf s) s (length log₀) (length shown₀)) (script-is F) ∙ sym accepted-stop in (
+          stopped-outcome A ∙ ap (outcome (f .n) log₀ shown₀) w ∙ rw (F .n-is),
+          ap (λ (x : Spent). x .revealed) (A .holds .spent) ∙ ap (λ (x : Stop). x .state .spent .revealed) w,
+        )

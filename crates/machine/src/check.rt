@@ -69,23 +69,23 @@ fn reads_set(marks: [bool; 64], f: Frame, c: Command) -> bool
 }
 
 // 22 to 26 for a cost, or 0: the record has place for log numbers and the revealed list for so many values.
-fn affords(spent: Counts, f: Frame, k: Counts, log: usize, shown: usize) -> u32
-    requires { ⌜ (spent .inputs ≤ f .inputs) × (spent .masks ≤ f .masks) × (spent .triples ≤ f .triples) × (spent .openings * f .n ≤ log) × (spent .revealed ≤ shown) × (k .openings ≤ 1000) × (f .n ≤ 7) ⌝ }
-    ensures { λ r. ⌜ ((c : Costs.Cost) (marks : List Bool) → k ≡ countsOf c → true ≡ Run.allSet marks (c .reads) → r ≡ Run.check (supplyIn f log shown) c (spentBy spent marks)) ⌝ }
+fn affords(spent: Counts, f: Frame, need: Counts, log: usize, shown: usize) -> u32
+    requires { ⌜ (spent .inputs ≤ f .inputs) × (spent .masks ≤ f .masks) × (spent .triples ≤ f .triples) × (spent .openings * f .n ≤ log) × (spent .revealed ≤ shown) × (need .openings ≤ 1000) × (f .n ≤ 7) ⌝ }
+    ensures { λ r. ⌜ ((c : Costs.Cost) (marks : List Bool) → need ≡ countsOf c → true ≡ Run.allSet marks (c .reads) → r ≡ Run.check (supplyIn f log shown) c (spentBy spent marks)) ⌝ }
 {
-    if f.inputs - spent.inputs < k.inputs {
+    if f.inputs - spent.inputs < need.inputs {
         return 22;
     }
-    if f.masks - spent.masks < k.masks {
+    if f.masks - spent.masks < need.masks {
         return 23;
     }
-    if f.triples - spent.triples < k.triples {
+    if f.triples - spent.triples < need.triples {
         return 24;
     }
-    if log - spent.openings * f.n < k.openings * f.n {
+    if log - spent.openings * f.n < need.openings * f.n {
         return 25;
     }
-    if shown - spent.revealed < k.revealed {
+    if shown - spent.revealed < need.revealed {
         return 26;
     }
     0
@@ -97,15 +97,15 @@ pub fn check(
     spent: Counts,
     f: Frame,
     c: Command,
-    k: Counts,
+    need: Counts,
     log: usize,
     shown: usize,
 ) -> u32
-    requires { ⌜ (spent .inputs ≤ f .inputs) × (spent .masks ≤ f .masks) × (spent .triples ≤ f .triples) × (spent .openings * f .n ≤ log) × (spent .revealed ≤ shown) × (k .openings ≤ 1000) × (f .n ≤ 7) × (k ≡ countsOf (Costs.cost (f .l) (meant c))) × T (Script.inRanges (f .p) (f .largest) (meant c)) ⌝ }
+    requires { ⌜ (spent .inputs ≤ f .inputs) × (spent .masks ≤ f .masks) × (spent .triples ≤ f .triples) × (spent .openings * f .n ≤ log) × (spent .revealed ≤ shown) × (need .openings ≤ 1000) × (f .n ≤ 7) × (need ≡ countsOf (Costs.cost (f .l) (meant c))) × T (Script.inRanges (f .p) (f .largest) (meant c)) ⌝ }
     ensures { λ r. ⌜ r ≡ Run.check (supplyIn f log shown) (Costs.cost (f .l) (meant c)) (spentBy spent marks) ⌝ }
 {
     if reads_set(marks, f, c) {
-        affords(spent, f, k, log, shown)
+        affords(spent, f, need, log, shown)
     } else {
         21
     }

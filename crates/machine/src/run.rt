@@ -47,10 +47,10 @@ fn run_script(f: Frame, s: &[u8], script: &[u8], log: &mut [u32], revealed: &mut
                 table,
             };
         }
-        let k = cost::cost(f, c);
+        let need = cost::cost(f, c);
         let marks = table.marks;
         let spent = table.spent;
-        let number = check::check(marks, spent, f, c, k, log.len(), revealed.len());
+        let number = check::check(marks, spent, f, c, need, log.len(), revealed.len());
         if number != 0 {
             return Answer {
                 number,
@@ -58,7 +58,7 @@ fn run_script(f: Frame, s: &[u8], script: &[u8], log: &mut [u32], revealed: &mut
                 table,
             };
         }
-        table = table.step(f, s, log, revealed, c, k);
+        table = table.step(f, s, log, revealed, c, need);
         at = next;
     }
 }
@@ -87,7 +87,7 @@ fn refusal(read: Read) -> u32
 // Runs a sheet. Opened shares go to the log, the paper's record, and revealed values to the revealed list, each from its start; past what was
 // written they are unchanged.
 pub fn run(sheet: &[u8], log: &mut [u32], revealed: &mut [u32]) -> Answer
-    ensures { λ r. ⌜ outcomeOf r (now (log .exit)) (now (revealed .exit)) ≡ Run.run (now (sheet .entry)) (now (log .entry)) (now (revealed .entry)) ⌝ }
+    ensures { λ r. ⌜ (outcomeOf r (now (log .exit)) (now (revealed .exit)) ≡ Run.run (now (sheet .entry)) (now (log .entry)) (now (revealed .entry))) × (r .table .spent .revealed ≡ Run.stopOf (now (sheet .entry)) (length (now (log .entry))) (length (now (revealed .entry))) .state .spent .revealed) ⌝ }
 {
     let read = sheet::read_sheet(sheet);
     let Read::Sheet(f) = read else {

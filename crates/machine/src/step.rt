@@ -16,16 +16,16 @@ use script::command::Command;
 use sheet::frame::Frame;
 
 // "Inputs counts the finished LOADs; masks, triples and openings are the sums of what is spent over the finished commands."
-fn pay(spent: Counts, k: Counts) -> Counts
-    requires { ⌜ (spent .inputs + k .inputs < 2 ^ 64) × (spent .masks + k .masks < 2 ^ 64) × (spent .triples + k .triples < 2 ^ 64) × (spent .openings + k .openings < 2 ^ 64) × (spent .revealed + k .revealed < 2 ^ 64) ⌝ }
-    ensures { λ r. ⌜ r ≡ more spent k ⌝ }
+fn pay(spent: Counts, need: Counts) -> Counts
+    requires { ⌜ (spent .inputs + need .inputs < 2 ^ 64) × (spent .masks + need .masks < 2 ^ 64) × (spent .triples + need .triples < 2 ^ 64) × (spent .openings + need .openings < 2 ^ 64) × (spent .revealed + need .revealed < 2 ^ 64) ⌝ }
+    ensures { λ r. ⌜ r ≡ more spent need ⌝ }
 {
     Counts {
-        inputs: spent.inputs + k.inputs,
-        masks: spent.masks + k.masks,
-        triples: spent.triples + k.triples,
-        openings: spent.openings + k.openings,
-        revealed: spent.revealed + k.revealed,
+        inputs: spent.inputs + need.inputs,
+        masks: spent.masks + need.masks,
+        triples: spent.triples + need.triples,
+        openings: spent.openings + need.openings,
+        revealed: spent.revealed + need.revealed,
     }
 }
 
@@ -53,7 +53,7 @@ impl Table {
         }
     }
 
-    // A command that the checks let through, whose cost is k.
+    // A command that the checks let through, whose cost is need.
     pub fn step(
         self,
         f: Frame,
@@ -61,14 +61,14 @@ impl Table {
         log: &mut [u32],
         revealed: &mut [u32],
         c: Command,
-        k: Counts,
+        need: Counts,
     ) -> Table
-        requires { ⌜ Framed (now s) f × T (Script.inRanges (f .p) (f .largest) (meant c)) × (Run.check (supplyIn f (length (now log)) (length (now revealed))) (Costs.cost (f .l) (meant c)) (spentOf self) ≡ 0) × (k ≡ countsOf (Costs.cost (f .l) (meant c))) ⌝ }
+        requires { ⌜ Framed (now s) f × T (Script.inRanges (f .p) (f .largest) (meant c)) × (Run.check (supplyIn f (length (now log)) (length (now revealed))) (Costs.cost (f .l) (meant c)) (spentOf self) ≡ 0) × (need ≡ countsOf (Costs.cost (f .l) (meant c))) ⌝ }
         ensures { λ r. ⌜ Finishes (now (s .entry)) f (meant c) self (now (log .entry)) (now (revealed .entry)) r (now (log .exit)) (now (revealed .exit)) ⌝ }
     {
         let mut done = self.perform(f, s, log, revealed, c);
         let before = done.spent;
-        let after = pay(before, k);
+        let after = pay(before, need);
         done.spent = after;
         done
     }

@@ -63,15 +63,20 @@ module _ {p l K : ℕ} (F : Field p l K) where
       rw (mod-eq-of-lt {n = x} {m = p} (omega arith), mod-eq-of-lt {n = x / 2 ^ m} {m = p} (omega (arith, div-le-self x (2 ^ m))))
       at (quot-code k m (pos x) hk hm r)
 
+  division-read : (k m x : ℕ) → 2 ≤ k → k ≤ K → 1 ≤ m → m < k → x < p → T (inRange k (readBack p x))
+      → Division (readBack p x) (2 ^ m) (readBack p (quot p k m x)) (rem p k m x)
+  division-read k m x _ hk _ hm l t = rw (code-read p x l) at (division-code k m (readBack p x) hk hm (in-magnitude k (readBack p x) t))
+
   field-exact : Exact p K
-  unfolding exceeds
+  unfolding exceeds charged
   field-exact =
       let z : 0 < p = omega arith in
       record {
-        division = λ k m x _ hk _ hm l t. rw (code-read p x l) at (division-code k m (readBack p x) hk hm (in-magnitude k (readBack p x) t));
+        division = division-read;
         sign = negative-read;
         over-read = λ k v a h hk t. negative-read k _ h hk (sub-lt v a z) t;
         over = λ k v a h hk t. rw (← (code-sub z v a)) (negative-code k (v -ℤ a) h hk t ∙ ap one (sign-sub v a));
+        charges = division-read;
         finished = λ k m x _ hk _ hm l. finished-blocks k m x hk hm l;
         compares = λ v bs n t l. less-is p v bs (omega arith) (all-below 2 bs .0 t) n l;
       }

@@ -89,7 +89,9 @@ pub record Exact (p K : ℕ) : Type 0 where
   pub over-read : (k v a : ℕ) → 2 ≤ k → k ≤ K → T (inRange k (readBack p (sub p v a)))
       → exceeds p k v a ≡ one (ltZ (readBack p (sub p v a)) (pos 0))
   pub over : (k : ℕ) (v a : ℤ) → 2 ≤ k → k ≤ K → T (inRange k (v -ℤ a)) → exceeds p k (code p v) (code p a) ≡ one (ltZ v a)
-  -- BLOCKS: the finished blocks of 2^m seconds
+  -- BLOCKS: "finished blocks of 2^m seconds, today equal to TRUNC", the floor over the whole range
+  pub charges : (k m x : ℕ) → 2 ≤ k → k ≤ K → 1 ≤ m → m < k → x < p → T (inRange k (readBack p x))
+      → Division (readBack p x) (2 ^ m) (readBack p (charged p k m x)) (rem p k m x)
   pub finished : (k m x : ℕ) → 2 ≤ k → k ≤ K → 1 ≤ m → m < k → x < 2 ^ (k - 1) → charged p k m x ≡ x / 2 ^ m
   -- BITLT of bits, for every number of them: 1 if v is below the number they spell, else 0
   pub compares : (v : ℕ) (bs : List ℕ) → 1 ≤ length bs → T (allBelow 2 bs) → v < 2 ^ length bs → less p v bs ≡ one (ltb v (spell bs))

@@ -1,21 +1,24 @@
 -- `modulus` meets its contract: the table is the model's, and the facts of a modulus are those of its fields.
 -- Assumes nothing.
-use mathlib.Core.Path.{refl}
+use Prim.Native.Nat.{ℕ, _*_}
 use borrow.Author.Needs.{needs}
 use Rattle.model.specs.Fields.{modulus}
-use Rattle.model.proofs.Fields.{fields}
+use Rattle.field.proofs.Entries.{entryTest, entry-at, modulus-facts}
 use Rattle.field.proofs.table.modulus.Statement.{statement}
 use Rattle.field.proofs.table.modulus.Tie as tie
 
 mul-result : tie.Need-mul-result
 mul-result c = search needs
 
+mul-result-2 : tie.Need-mul-result-2
+mul-result-2 c = search needs
+
 array-read-result : tie.Need-array-read-result
 array-read-result c = search needs
 
 returns : tie.Need-returns
-unfolding modulus
-returns c = (refl, fields (c .args .field) (c .pre) .modulus-is)
+unfolding entryTest modulus
+returns c = search (needs, entry-at (λ (f : ℕ). 3 * f) modulus, modulus-facts)
 
 pub modulus-spec : {M : Type 1} → statement M
-modulus-spec = tie.close (tie.spec mul-result array-read-result returns)
+modulus-spec = tie.close (tie.spec mul-result mul-result-2 array-read-result returns)
