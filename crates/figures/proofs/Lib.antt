@@ -3,3 +3,4 @@ pub mod Figures
 pub mod Printed
 pub mod Witness
 pub mod TwinSheets
+pub mod Room

@@ -2,3 +2,4 @@ pub mod Figures
 pub mod Printed
 pub mod Witness
 pub mod TwinSheets
+pub mod Room

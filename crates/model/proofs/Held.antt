@@ -58,7 +58,7 @@ pub record Holds (S : Setting) (d : Deal) (s : State) (vs : List ℕ) : Type 0 w
   pub rows : All Seven (s .opened)
   pub shows : length (s .shown) ≡ s .spent .revealed
 
-all-same : {A : Type 0} (n r : ℕ) (a : A) → getD (replicate n a) r a ≡ a
+pub all-same : {A : Type 0} (n r : ℕ) (a : A) → getD (replicate n a) r a ≡ a
 all-same zero r a = refl
 all-same (suc n) zero a = refl
 all-same (suc n) (suc r) a = all-same n r a
