@@ -9,7 +9,7 @@ use native.Mathlib.Decide.{decLt}
 use native.Mathlib.Numerals.{add-one}
 use native.Mathlib.Omega.{arith}
 use lib.ListN.{length, getD, set, take, drop, replicate, length-append, length-replicate, getD-replicate, List·getD-append, List·getD-eq-default}
-use lib.Seq.{ext-getD, take-at, set-at, getD-append-add, append-snoc}
+use lib.Seq.{ext-getD, take-at, set-at, getD-append-add}
 use Rattle.algebra.specs.Lists.{allBelow}
 use Rattle.algebra.specs.Rows.{tab, row, padded}
 use Rattle.algebra.proofs.Lists.{below-more, below-fails, below-end}

@@ -1,7 +1,7 @@
 -- The table of 64 registers as the code holds it: 448 cells, register r's from cell 7r on.
 -- Assumes nothing.
 use mathlib.Core.Bool.{true, false}
-use mathlib.Core.List.{List, _++_}
+use mathlib.Core.List.{_++_}
 use Prim.Native.Nat.{ℕ, _+_, _*_}
 use lib.ListN.{set, take, drop, replicate}
 use Rattle.model.specs.Steps.{Row}

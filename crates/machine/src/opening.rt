@@ -1,6 +1,6 @@
 // The commands that open shares and take no mask: MUL, BITLT and REVEAL.
 ghost use mathlib.Core.List.{List};
-ghost use Prim.Native.Nat.{ℕ, _+_, _*_, _^_, _<_};
+ghost use Prim.Native.Nat.{ℕ, _*_, _<_};
 ghost use lib.ListN.{length};
 ghost use Rattle.model.specs.Script as Script;
 ghost use Rattle.machine.specs.Holding.{Ready, Performs};

@@ -1,22 +1,22 @@
 -- What is known of a sheet and a script that are not refused.
 -- Assumes nothing.
-use mathlib.Core.Path.{_≡_, refl, sym, ap, subst, _∙_}
+use mathlib.Core.Path.{_≡_, refl, subst, _∙_}
 use mathlib.Core.Bool.{Bool, true, false, _&&_, cond}
 use mathlib.Core.List.{List, [], _∷_, _++_, List·Memᴰ as In, List·Memᴰ·head as here, List·Memᴰ·tail as there}
-use Prim.Native.Nat.{ℕ, zero, suc, _+_, _*_, _^_, _≤_, _<_}
+use Prim.Native.Nat.{ℕ, zero, suc, _+_, _<_}
 use native.Mathlib.Decide.{decLt}
 use native.Mathlib.Omega.{arith}
-use lib.Dec.{T, ltb, leb, eqb, ltb→lt, leb→le, eqb→eq}
+use lib.Dec.{T, ltb, leb, eqb, ltb→lt, eqb→eq}
 use lib.ListN.{length, getD}
 use lib.Pow.{pow-mono}
 use Rattle.algebra.specs.Lists.{All, none, one, allBelow}
 use Rattle.algebra.proofs.Lists.{all-below}
 use Rattle.algebra.proofs.Tests.{and-left, and-right}
 use Rattle.model.specs.Fields.{Field, Parties, modulus, bits, largestK, parties}
-use Rattle.model.specs.Sharing.{Sharing, secret, isSharing}
-use Rattle.model.specs.Steps.{Setting, Row, Triple, Deal}
+use Rattle.model.specs.Sharing.{Sharing}
+use Rattle.model.specs.Steps.{Setting, Row, Triple}
 use Rattle.model.specs.Script.{Line, Script, accepted, refused, commandAt, sizeAt, inRanges, numberAt, withLine, scriptStep, scriptFrom, scriptOf}
-use Rattle.model.specs.Sheet.{Header, headerOf, settingOf, limits, impliedLength, inputIn, dealIn, all, maskRows, tripleRows, dealRows, secrets, spell, goodMask, goodTriple, sharesBelow, aSharing, sheetNumber}
+use Rattle.model.specs.Sheet.{headerOf, settingOf, limits, impliedLength, inputIn, dealIn, all, maskRows, tripleRows, dealRows, secrets, spell, goodMask, goodTriple, sharesBelow, aSharing, sheetNumber}
 use Rattle.model.specs.Run.{supplyOf}
 use Rattle.model.proofs.Fields.{fields, parties-facts}
 use Rattle.model.proofs.Entries.{passed}

@@ -1,19 +1,19 @@
 -- Recovery by taking off the constant term: what is left, divided by the party's number, is the row of the other coefficients.
 -- Assumes nothing.
-use mathlib.Core.Path.{_≡_, refl, sym, ap, _∙_}
-use mathlib.Core.List.{List, [], _∷_, List·Memᴰ as In}
-use Prim.Native.Nat.{ℕ, zero, suc, _+_, _-_, _*_, _%_, _≤_, _<_}
+use mathlib.Core.Path.{_≡_, ap, _∙_}
+use mathlib.Core.List.{List, [], _∷_}
+use Prim.Native.Nat.{ℕ, zero, suc, _+_, _%_, _≤_, _<_}
 use native.Mathlib.Omega.{arith}
 use lib.ListN.{length, getD, drop, length-drop}
 use lib.Seq.{drop-cons, getD-drop}
-use Rattle.algebra.specs.Ring.{add, sub, mul}
+use Rattle.algebra.specs.Ring.{sub, mul}
 use Rattle.algebra.specs.Lists.{Below, from}
 use Rattle.algebra.specs.Rows.{row}
 use Rattle.algebra.proofs.Ring.{ring, mod-ring, reduced, both-reduced, given, mul-lt}
 use Rattle.algebra.proofs.Lists.{below-head, in-from, from-in, length-from}
 use Rattle.algebra.proofs.Rows.{row-at, row-ext}
 use Rattle.model.specs.Fields.{Modulus, inverse}
-use Rattle.model.specs.Sharing.{eval, interpolate, at, recover, secret}
+use Rattle.model.specs.Sharing.{eval, at, recover, secret}
 use Rattle.model.proofs.Polynomials.{positive, eval-lt, length-interpolate, below-interpolate, interpolate-eval}
 use Rattle.model.proofs.Sharings.{nodes-from}
 use Rattle.model.proofs.Weights.{value-before, weighted-cong}

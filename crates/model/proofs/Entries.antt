@@ -1,21 +1,19 @@
 -- When the small entries accept, as facts; and that sharing and recovery undo each other as entries.
 -- Assumes nothing.
-use mathlib.Core.Path.{_≡_, refl, sym, ap, ap₂, subst, _∙_}
+use mathlib.Core.Path.{_≡_, refl, sym, ap, _∙_}
 use mathlib.Core.Logic.{_↔_}
-use mathlib.Core.Bool.{Bool, true, false, _&&_, cond}
+use mathlib.Core.Bool.{Bool, true, false, _&&_}
 use mathlib.Core.List.{List, [], _∷_}
-use Prim.Native.Nat.{ℕ, zero, suc, _<_}
+use Prim.Native.Nat.{ℕ, suc, _<_}
 use native.Mathlib.Omega.{arith}
 use lib.Dec.{T, ltb, eqb, ltb→lt, lt→ltb, eqb→eq, eqb-refl}
-use lib.ListN.{length, getD, take, drop}
-use borrow.Author.Tests.{eq-eqb, lt-ltb}
-use Rattle.algebra.specs.Ring.{add, mul}
+use lib.ListN.{length, take, drop}
 use Rattle.algebra.specs.Lists.{Below, allBelow}
-use Rattle.algebra.specs.Rows.{tab, row, padded}
+use Rattle.algebra.specs.Rows.{padded}
 use Rattle.algebra.proofs.Ring.{ring, mod-ring, reduced}
-use Rattle.algebra.proofs.Lists.{all-below, below-head, below-cons}
+use Rattle.algebra.proofs.Lists.{all-below, below-head}
 use Rattle.algebra.proofs.Rows.{length-tab, getD-tab, is-tab, take-row, padded-tab}
-use Rattle.algebra.proofs.Tests.{and-left, and-right, and-both, is-true}
+use Rattle.algebra.proofs.Tests.{and-left, and-right, and-both}
 use Rattle.model.specs.Fields.{modulus, Modulus, Parties, parties}
 use Rattle.model.specs.Sharing.{eval, share, Sharing, recover, secret, isSharing}
 use Rattle.model.specs.Entries.{tried, fitted, shareNumber, shareLeft, recoverNumber, recoverValue, recoverLeft}

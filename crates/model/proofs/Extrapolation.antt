@@ -1,16 +1,15 @@
 -- A row is a sharing just if its shares are below p and each is what the t + 1 shares after it give.
 -- Assumes nothing.
-use mathlib.Core.Path.{_≡_, refl, sym, ap, _∙_}
-use mathlib.Core.List.{List, List·Memᴰ as In}
-use Prim.Native.Nat.{ℕ, zero, suc, _+_, _-_, _*_, _%_, _≤_, _<_}
+use mathlib.Core.Path.{_≡_, sym, ap, _∙_}
+use mathlib.Core.List.{List}
+use Prim.Native.Nat.{ℕ, zero, suc, _+_, _-_, _%_, _≤_, _<_}
 use native.Mathlib.Nat.{mod-eq-of-lt}
 use native.Mathlib.Decide.{decLe}
 use native.Mathlib.Omega.{arith}
-use lib.ListN.{length}
 use Rattle.algebra.specs.Lists.{from}
 use Rattle.algebra.specs.Rows.{row}
 use Rattle.algebra.proofs.Lists.{in-from, from-in, length-from}
-use Rattle.algebra.proofs.Rows.{row-at, row-ext}
+use Rattle.algebra.proofs.Rows.{row-ext}
 use Rattle.model.specs.Fields.{Modulus, Parties}
 use Rattle.model.specs.Sharing.{eval, share, Sharing, interpolate, at, weighted}
 use Rattle.model.proofs.Polynomials.{positive, length-interpolate, below-interpolate, interpolate-eval}

@@ -1,12 +1,11 @@
 -- The facts of the four fields, by one test over the table, and what follows from `Modulus` for powers of two.
 -- Assumes nothing.
-use mathlib.Core.Path.{_≡_, refl, sym, ap, _∙_}
-use mathlib.Core.Bool.{Bool, true, false, _&&_}
-use Prim.Native.Nat.{ℕ, zero, suc, _+_, _-_, _*_, _/_, _%_, _^_, _≤_, _<_}
-use native.Mathlib.Nat.{mod-lt, mod-eq-of-lt, pow-suc}
+use mathlib.Core.Path.{_≡_, refl, ap, _∙_}
+use mathlib.Core.Bool.{Bool, _&&_}
+use Prim.Native.Nat.{ℕ, zero, suc, _+_, _*_, _/_, _%_, _^_, _<_}
+use native.Mathlib.Nat.{mod-eq-of-lt, pow-suc}
 use native.Mathlib.Omega.{arith}
 use lib.Dec.{T, ltb, leb, eqb, ltb→lt, leb→le, le→leb, eqb→eq}
-use lib.ListN.{getD}
 use Rattle.algebra.specs.Ring.{mul}
 use Rattle.algebra.proofs.Ring.{by-quotients, ring, mod-ring, reduced, both-reduced, given, mul-lt}
 use Rattle.algebra.proofs.Tests.{and-left, and-right, and-both, every, every-at}

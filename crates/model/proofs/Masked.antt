@@ -1,21 +1,21 @@
 -- MOD and what rests on it, on the values of rows: whatever the mask, the plain interpreter's formulas.
 -- Assumes nothing.
-use mathlib.Core.Path.{_≡_, refl, sym, ap, subst, _∙_}
-use mathlib.Core.List.{List, [], _∷_}
-use Prim.Native.Nat.{ℕ, zero, suc, _+_, _-_, _*_, _%_, _^_, _≤_, _<_}
+use mathlib.Core.Path.{ap, _∙_}
+use mathlib.Core.List.{List, []}
+use Prim.Native.Nat.{ℕ, _+_, _-_, _%_, _^_, _≤_, _<_}
 use native.Mathlib.Nat.{mod-lt}
 use native.Mathlib.Omega.{arith}
-use lib.ListN.{length, take}
+use lib.ListN.{take}
 use lib.Pow.{pow-pos, pow-mono}
 use Rattle.algebra.specs.Ring.{add, sub, mul}
-use Rattle.algebra.specs.Lists.{All, none, one, first}
-use Rattle.model.specs.Fields.{Field, Parties, inversePowerOf2}
+use Rattle.algebra.specs.Lists.{All, first}
+use Rattle.model.specs.Fields.{Field, Parties}
 use Rattle.model.specs.Sharing.{Sharing}
-use Rattle.model.specs.Steps.{Setting, Row, Deal, Step, lessMask, plus, minus, times, nextMask, stepC, stepF, stepU0, stepU1, unmasked, remainder, quotient, floor, sign, over, blocks}
+use Rattle.model.specs.Steps.{Setting, Row, Deal, lessMask, nextMask, stepC, stepF, stepU0, stepU1, unmasked, remainder, quotient, floor, sign, over, blocks}
 use Rattle.model.specs.Sheet.{secrets}
-use Rattle.model.specs.Plain.{less, rem, quot, negative, exceeds, charged}
+use Rattle.model.specs.Plain.{rem, quot, negative, exceeds, charged}
 use Rattle.model.proofs.Unmasking.{spelt, unmask, Masking, unmask-is}
-use Rattle.model.proofs.Shared.{Shared, Shareds, TripleOk, all-first, all-drop, shared-plus, shared-minus, shared-times, shared-constant, shared-zero, opens, shared-product, shared-comparison, shared-spelled, shareds-take, shareds-secrets}
+use Rattle.model.proofs.Shared.{Shared, Shareds, TripleOk, all-drop, shared-plus, shared-minus, shared-times, shared-constant, shared-zero, opens, shared-product, shared-comparison, shared-spelled, shareds-take, shareds-secrets}
 use Rattle.model.proofs.Taking.{Used, took-comparison}
 
 -- a well-formed mask: its rows are sharings, and their secrets are bits that spell a number below p

@@ -2,25 +2,24 @@
 -- Assumes nothing.
 use mathlib.Core.Path.{_≡_, refl, sym, ap, _∙_}
 use mathlib.Core.Bool.{Bool, true, false, _&&_}
-use mathlib.Core.List.{List, [], _∷_, _++_}
-use Prim.Native.Nat.{ℕ, zero, suc, _+_, _-_, _*_, _^_, _≤_, _<_}
+use mathlib.Core.List.{List, [], _∷_}
+use Prim.Native.Nat.{ℕ, zero, suc, _+_, _-_, _^_, _≤_, _<_}
 use native.Mathlib.Omega.{arith}
 use lib.Dec.{T, ltb, leb, ltb→lt, leb→le}
-use lib.ListN.{length, getD, set, drop, length-append, length-drop}
-use Rattle.algebra.specs.Ring.{add, sub, mul}
+use lib.ListN.{length, getD, drop}
 use Rattle.algebra.specs.Lists.{All, none, one, from, first}
 use Rattle.algebra.proofs.Tests.{and-left, and-right, is-true}
 use Rattle.model.specs.Fields.{Field, Parties}
 use Rattle.model.specs.Sharing.{Sharing}
-use Rattle.model.specs.Steps.{Setting, Row, Triple, Deal, Step, value}
+use Rattle.model.specs.Steps.{Setting, Row, Deal}
 use Rattle.model.specs.Script.{Command, END, LOAD, CONST, ADD, SUB, SCALE, MUL, MOD, TRUNC, LTZ, OVER, BLOCKS, REVEAL, BITLT, register, kIn, mIn, inRanges}
-use Rattle.model.specs.Costs.{Cost, cost}
+use Rattle.model.specs.Costs.{cost}
 use Rattle.model.specs.Sheet.{secrets}
-use Rattle.model.specs.Run.{Spent, State, Supply, noRow, allSet, marked, check, pay, registersFrom, put, perform, finish}
+use Rattle.model.specs.Run.{State, Supply, noRow, allSet, registersFrom, perform, finish}
 use Rattle.model.specs.Plain.{plainly, valuesFrom}
 use Rattle.model.proofs.Sharings.{length-sharing}
-use Rattle.model.proofs.Shared.{Shared, Shareds, no-more, and, TripleOk, all-drop, shared-plus, shared-minus, shared-times, shared-constant, shared-product, shared-comparison, shareds-secrets}
-use Rattle.model.proofs.Taking.{Seven, Used, Took, took-product, took-comparison, took-remainder, took-floor, took-sign, took-over, took-blocks, took-nothing, all-append}
+use Rattle.model.proofs.Shared.{Shared, Shareds, no-more, and, TripleOk, shared-plus, shared-minus, shared-times, shared-constant, shared-product, shared-comparison, shareds-secrets}
+use Rattle.model.proofs.Taking.{Took, took-product, took-comparison, took-remainder, took-floor, took-sign, took-over, took-blocks, took-nothing}
 use Rattle.model.proofs.Masked.{MaskOk, Ranges, shared-remainder, shared-floor, shared-sign, shared-over, shared-blocks, still-ok}
 use Rattle.model.proofs.Held.{Held, Holds, holds-put, holds-idle, holds-shown, Passed}
 

@@ -3,15 +3,15 @@
 use mathlib.Core.Path.{_≡_, refl, sym, ap, ap₂, _∙_}
 use mathlib.Core.Bool.{Bool, true, false, cond}
 use mathlib.Core.List.{List, [], _∷_}
-use Prim.Native.Nat.{ℕ, zero, suc, _+_, _-_, _*_, _/_, _%_, _^_, _≤_, _<_}
+use Prim.Native.Nat.{ℕ, zero, suc, _/_, _<_}
 use native.Mathlib.Omega.{arith}
-use lib.ListN.{length, take, drop}
+use lib.ListN.{take, drop}
 use Rattle.algebra.specs.Ring.{add, sub, mul}
 use Rattle.algebra.specs.Lists.{All, none, one, first, others}
 use Rattle.algebra.proofs.Ring.{ring, mod-ring, reduced, mul-lt}
 use Rattle.model.specs.Fields.{Modulus, Parties}
 use Rattle.model.specs.Sharing.{Sharing, secret}
-use Rattle.model.specs.Steps.{Setting, Row, Triple, Deal, Step, odd, plus, minus, times, constant, value, beaver, noTriple, product, chosen, comparisonFrom, comparison, spelled}
+use Rattle.model.specs.Steps.{Setting, Row, Triple, Deal, odd, plus, minus, times, constant, value, beaver, noTriple, product, chosen, comparisonFrom, comparison, spelled}
 use Rattle.model.specs.Sheet.{secrets}
 use Rattle.model.specs.Plain.{lessStep, lessFrom, less}
 use Rattle.model.proofs.Polynomials.{positive}

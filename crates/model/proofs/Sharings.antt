@@ -1,25 +1,24 @@
 -- Laws of sharings: recovery, closure under the row operations, and the sharing that keeps a set's shares.
 -- Assumes nothing.
 use mathlib.Core.Path.{_≡_, refl, sym, ap, ap₂, subst, _∙_}
-use mathlib.Core.Logic.{_↔_, _≢_}
-use mathlib.Core.Bool.{Bool, true, false, _&&_}
+use mathlib.Core.Logic.{_↔_}
 use mathlib.Core.List.{List, [], _∷_, List·Memᴰ as In, List·Memᴰ·head as here, List·Memᴰ·tail as there}
-use Prim.Native.Nat.{ℕ, zero, suc, _+_, _*_, _%_, _≤_, _<_}
+use Prim.Native.Nat.{ℕ, zero, suc, _+_, _%_, _≤_, _<_}
 use native.Mathlib.Nat.{mod-eq-of-lt}
 use native.Mathlib.Omega.{arith}
 use lib.Dec.{T, eqb, eqb→eq, eqb-refl}
-use lib.ListN.{length, getD, replicate, length-replicate, getD-replicate}
+use lib.ListN.{length, getD, replicate, length-replicate}
 use Rattle.algebra.specs.Ring.{add, sub, mul}
 use Rattle.algebra.specs.Lists.{Below, from, sameList, Distinct}
 use Rattle.algebra.specs.Rows.{tab, row, on}
 use Rattle.algebra.proofs.Ring.{ring, mod-ring, reduced, add-lt, mul-lt, sub-lt}
 use Rattle.algebra.proofs.Lists.{below-nil, below-cons, in-from, length-from}
-use Rattle.algebra.proofs.Rows.{length-tab, getD-tab, length-row, row-at, row-ext, row-below}
+use Rattle.algebra.proofs.Rows.{length-tab, getD-tab, length-row, row-at, row-ext}
 use Rattle.algebra.proofs.Tests.{and-left, and-right, and-both}
 use Rattle.model.specs.Fields.{Modulus, Parties}
 use Rattle.model.specs.Sharing.{eval, share, Sharing, interpolate, at, recover, secret, isSharing}
 use Rattle.model.specs.Shamir.{Points, Group, Agree, OneKept, Closed}
-use Rattle.model.proofs.Polynomials.{Apart, Nodes, eval-lt, interpolate-cong, length-interpolate, below-interpolate, positive, interpolate-eval, interpolate-only, same-values}
+use Rattle.model.proofs.Polynomials.{Nodes, eval-lt, interpolate-cong, length-interpolate, below-interpolate, positive, interpolate-eval, interpolate-only, same-values}
 
 -- a party's number
 pub record Seat (n z : ℕ) : Type 0 where

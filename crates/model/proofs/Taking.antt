@@ -1,15 +1,14 @@
 -- What the steps really take and open: masks and triples from the front of the deal, and rows of seven cells.
 -- Assumes nothing.
-use mathlib.Core.Path.{_≡_, refl, sym, ap, _∙_}
-use mathlib.Core.Bool.{Bool, true, false, cond}
+use mathlib.Core.Path.{_≡_, refl, ap, _∙_}
 use mathlib.Core.List.{List, [], _∷_, _++_}
-use Prim.Native.Nat.{ℕ, zero, suc, _+_, _-_, _*_, _/_, _%_, _^_, _≤_, _<_}
+use Prim.Native.Nat.{ℕ, suc, _+_, _-_, _*_, _/_, _≤_}
 use native.Mathlib.Omega.{arith}
 use lib.ListN.{length, take, drop, length-append, length-take}
 use lib.Seq.{drop-nil, drop-drop}
 use Rattle.algebra.specs.Lists.{All, none, one, first, others}
 use Rattle.algebra.proofs.Rows.{length-row}
-use Rattle.model.specs.Steps.{Setting, Row, Deal, Step, lessTriple, lessMask, after, odd, plus, minus, times, constant, value, product, chosen, comparisonFrom, comparison, nextMask, stepF, stepU0, stepU1, stepG, remainder, floor, sign, over, blocks}
+use Rattle.model.specs.Steps.{Setting, Row, Deal, Step, lessMask, odd, plus, minus, constant, product, chosen, comparisonFrom, comparison, nextMask, stepF, stepU0, stepU1, stepG, remainder, floor, sign, over, blocks}
 
 -- a row of seven cells
 abbrev pub Seven : Row → Type 0

@@ -2,10 +2,9 @@
 -- at any place is the same sum over the t + 1 places after it.
 -- Assumes nothing.
 use mathlib.Core.Path.{_≡_, refl, sym, ap, _∙_}
-use mathlib.Core.Bool.{true, false, cond}
 use mathlib.Core.Logic.{_≢_}
 use mathlib.Core.List.{List, [], _∷_, List·Memᴰ as In, List·Memᴰ·head as here, List·Memᴰ·tail as there}
-use Prim.Native.Nat.{ℕ, zero, suc, _+_, _-_, _*_, _%_, _≤_, _<_}
+use Prim.Native.Nat.{ℕ, zero, suc, _+_, _*_, _%_, _<_}
 use native.Mathlib.Nat.{mod-eq-of-lt}
 use native.Mathlib.Omega.{arith}
 use borrow.Author.Tests.{eq-eqb, ne-eqb}
@@ -13,10 +12,10 @@ use lib.ListN.{length}
 use Rattle.algebra.specs.Ring.{add, sub, mul}
 use Rattle.algebra.specs.Lists.{Below, from, total}
 use Rattle.algebra.proofs.Ring.{ring, mod-ring, reduced, both-reduced, given, add-lt, mul-lt}
-use Rattle.algebra.proofs.Lists.{below-nil, in-from, length-from, total-cong}
+use Rattle.algebra.proofs.Lists.{below-nil, length-from, total-cong}
 use Rattle.model.specs.Fields.{Modulus}
 use Rattle.model.specs.Sharing.{eval, newton, reciprocal, slope, interpolate, at, recover, secret, ratio, weight, weighted}
-use Rattle.model.proofs.Polynomials.{Apart, Nodes, positive, eval-lt, length-newton, below-newton, interpolate-cong, eval-newton, reciprocal-unit, interpolate-only}
+use Rattle.model.proofs.Polynomials.{Apart, Nodes, positive, length-newton, below-newton, interpolate-cong, eval-newton, reciprocal-unit, interpolate-only}
 use Rattle.model.proofs.Sharings.{nodes-from}
 
 ratio-same : (p x z : ℕ) → z ≡ x → ratio p x z ≡ 1

@@ -1,12 +1,11 @@
 -- What share and recover leave: where nothing refuses, what was put; in a refusal, what stood there.
 -- Assumes nothing.
-use mathlib.Core.Path.{_≡_, refl, sym, ap, _∙_}
+use mathlib.Core.Path.{_≡_, sym, _∙_}
 use mathlib.Core.List.{List, _∷_}
-use Prim.Native.Nat.{ℕ, _≤_}
+use Prim.Native.Nat.{ℕ}
 use native.Mathlib.Omega.{arith}
 use borrow.Author.Tests.{ne-eqb}
-use lib.ListN.{length, take, drop}
-use lib.Seq.{length-take-le}
+use lib.ListN.{take, drop}
 use Rattle.algebra.specs.Lists.{over}
 use Rattle.algebra.specs.Rows.{padded}
 use Rattle.algebra.proofs.Lists.{over-all}

@@ -1,16 +1,15 @@
 -- Recovery of the coefficients, one law for each need of its loop: after k turns the coefficients before k are written, c is coefficient k,
 -- and what is left of the row has the values of the coefficients from k on.
 -- Assumes nothing.
-use mathlib.Core.Path.{_≡_, refl, sym, ap, _∙_}
+use mathlib.Core.Path.{_≡_, sym, ap, _∙_}
 use mathlib.Core.List.{List}
-use Prim.Native.Nat.{ℕ, zero, suc, _+_, _-_, _%_, _≤_, _<_}
+use Prim.Native.Nat.{ℕ, suc, _+_, _-_, _%_, _≤_, _<_}
 use native.Mathlib.Nat.{mod-eq-of-lt}
 use native.Mathlib.Numerals.{add-one}
 use native.Mathlib.Omega.{arith}
-use lib.ListN.{length, getD, set, take, drop, length-drop}
+use lib.ListN.{length, getD, set, drop, length-drop}
 use lib.Seq.{getD-drop, take-all}
 use Rattle.algebra.specs.Ring.{sub, mul}
-use Rattle.algebra.specs.Lists.{over}
 use Rattle.algebra.specs.Rows.{row}
 use Rattle.algebra.proofs.Lists.{Writing, writing-start, writing-more, writing-end, writing-length, over-all}
 use Rattle.algebra.proofs.Rows.{row-at}

@@ -1,7 +1,7 @@
 -- What is_sharing answers: the shares are below p, and each is what the t + 1 after it give.
 -- Assumes nothing.
-use mathlib.Core.Path.{_≡_, refl, sym, ap, subst, _∙_}
-use mathlib.Core.Bool.{Bool, true, false}
+use mathlib.Core.Path.{_≡_, sym, ap, subst, _∙_}
+use mathlib.Core.Bool.{true, false}
 use mathlib.Core.Logic.{_≢_}
 use mathlib.Core.List.{List}
 use Prim.Native.Nat.{ℕ, zero, suc, _+_, _-_, _%_, _≤_, _<_}
@@ -16,7 +16,7 @@ use Rattle.algebra.proofs.Lists.{all-below, in-from}
 use Rattle.algebra.proofs.Rows.{row-at, row-ext, getD-tab, length-tab}
 use Rattle.algebra.proofs.Tests.{is-true, is-false}
 use Rattle.model.specs.Fields.{Modulus, Parties}
-use Rattle.model.specs.Sharing.{Sharing, at, isSharing}
+use Rattle.model.specs.Sharing.{at, isSharing}
 use Rattle.model.proofs.Sharings.{Seat, share-lt, test-exact}
 use Rattle.model.proofs.Extrapolation.{before, extrapolated, sharing-steps}
 use Rattle.model.proofs.Weights.{weighted-cong}

@@ -9,7 +9,6 @@ ghost use mathlib.Core.List.{List};
 ghost use Prim.Native.Nat.{ℕ};
 ghost use lib.Dec.{eqb};
 ghost use lib.ListN.{length};
-ghost use Rattle.algebra.specs.Lists.{allBelow};
 ghost use Rattle.model.specs.Fields as Fields;
 ghost use Rattle.model.specs.Entries.{fitted, shareNumber, shareLeft, recoverNumber, recoverValue, recoverLeft};
 use field::table;

@@ -1,6 +1,6 @@
 // The secret of a row as a weighted sum, and the test that a row is a sharing.
 ghost use mathlib.Core.Path.{_≡_};
-ghost use Prim.Native.Nat.{suc, _+_, _%_, _^_, _≤_, _<_};
+ghost use Prim.Native.Nat.{_+_, _%_, _^_, _≤_, _<_};
 ghost use lib.ListN.{getD};
 ghost use Rattle.algebra.specs.Lists.{from, allBelow};
 ghost use Rattle.algebra.specs.Rows as Rows;

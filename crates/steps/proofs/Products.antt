@@ -1,10 +1,10 @@
 -- A product as the code has it: the rows read, the rows opened, and what is left.
 -- Assumes nothing.
-use mathlib.Core.Path.{_≡_, refl, sym, ap, ap₂, _∙_}
-use mathlib.Core.List.{List, [], _∷_, _++_, append-nil}
+use mathlib.Core.Path.{_≡_, _∙_}
+use mathlib.Core.List.{List, _++_, append-nil}
 use Prim.Native.Nat.{ℕ, suc, _+_, _*_}
 use native.Mathlib.Omega.{arith}
-use lib.ListN.{length, take}
+use lib.ListN.{take}
 use Rattle.algebra.specs.Ring.{sub}
 use Rattle.algebra.specs.Rows.{on}
 use Rattle.model.specs.Sharing.{secret}

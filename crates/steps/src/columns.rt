@@ -1,7 +1,6 @@
 // One column's part in each step: a function of its own shares and of public values only.
 ghost use mathlib.Core.Path.{_≡_};
 ghost use mathlib.Core.Bool.{cond};
-ghost use Prim.Native.Nat.{_<_};
 ghost use Rattle.algebra.specs.Ring as Ring;
 ghost use Rattle.model.specs.Fields as Fields;
 use field::arithmetic;

@@ -1,7 +1,7 @@
 // Opening, and MUL over it.
 ghost use mathlib.Core.Path.{_≡_};
 ghost use Prim.Native.Nat.{ℕ, suc, _+_, _*_, _≤_, _<_};
-ghost use lib.ListN.{length, getD, take};
+ghost use lib.ListN.{length, take};
 ghost use Rattle.algebra.specs.Ring as Ring;
 ghost use Rattle.algebra.specs.Lists as Lists;
 ghost use Rattle.algebra.specs.Rows as Rows;

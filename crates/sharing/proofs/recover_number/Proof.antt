@@ -5,7 +5,7 @@ use Rattle.sharing.proofs.Numbers.{fit, recover-early, recover-low, rec
 use borrow.Author.Needs.{needs}
 use denote.Ref.{now}
 use lib.ListN.{length}
-use mathlib.Core.Path.{_≡_, refl, sym, _∙_}
+use mathlib.Core.Path.{refl, sym, _∙_}
 use native.Mathlib.Omega.{arith}
 use Rattle.sharing.proofs.recover_number.Statement.{statement}
 use Rattle.sharing.proofs.recover_number.Tie as tie

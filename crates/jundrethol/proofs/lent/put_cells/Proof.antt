@@ -3,8 +3,7 @@
 use Prim.Native.Nat.{_-_}
 use Rattle.jundrethol.proofs.Fitting.{Lending, lending-start, lending-more, lending-length, lending-end}
 use borrow.Author.Needs.{needs}
-use lib.ListN.{length}
-use mathlib.Core.Path.{_≡_, refl}
+use mathlib.Core.Path.{refl}
 use native.Mathlib.Omega.{arith}
 use Rattle.jundrethol.proofs.lent.put_cells.Statement.{statement}
 use Rattle.jundrethol.proofs.lent.put_cells.Tie as tie

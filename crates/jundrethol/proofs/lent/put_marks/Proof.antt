@@ -4,8 +4,7 @@ use Prim.Native.Nat.{_-_}
 use Rattle.jundrethol.proofs.Fitting.{Lending, lending-start, lending-more, lending-length, lending-end, length-flags, flag-at}
 use Rattle.jundrethol.specs.Lent.{flags}
 use borrow.Author.Needs.{needs}
-use lib.ListN.{length}
-use mathlib.Core.Path.{_≡_, _∙_}
+use mathlib.Core.Path.{_∙_}
 use native.Mathlib.Omega.{arith}
 use Rattle.jundrethol.proofs.lent.put_marks.Statement.{statement}
 use Rattle.jundrethol.proofs.lent.put_marks.Tie as tie

@@ -1,7 +1,6 @@
 -- `command_at` meets its contract: by its byte the command is that of the table, and its bytes stand within the script.
 -- Assumes nothing.
 use borrow.Author.Needs.{needs}
-use native.Mathlib.Omega.{arith}
 use Rattle.script.proofs.Sizes.{room, room-value, command-at-byte}
 use Rattle.script.proofs.operands.command_at.Statement.{statement}
 use Rattle.script.proofs.operands.command_at.Tie as tie

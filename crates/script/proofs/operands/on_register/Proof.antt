@@ -1,7 +1,6 @@
 -- `on_register` meets its contract: by its byte the command is that of the table, and its bytes stand within the script.
 -- Assumes nothing.
 use borrow.Author.Needs.{needs}
-use native.Mathlib.Omega.{arith}
 use Rattle.script.proofs.Sizes.{room, room-value, room-long, command-at-byte}
 use Rattle.script.proofs.operands.on_register.Statement.{statement}
 use Rattle.script.proofs.operands.on_register.Tie as tie

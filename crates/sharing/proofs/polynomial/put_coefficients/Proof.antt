@@ -5,7 +5,6 @@ use Rattle.model.proofs.Fields.{fields}
 use Rattle.model.specs.Fields.{Modulus, modulus}
 use Rattle.sharing.proofs.Recovery.{Recovering, recovering-start, recovering-more, recovering-end, recovering-length}
 use borrow.Author.Needs.{needs}
-use mathlib.Core.Path.{_≡_, refl}
 use native.Mathlib.Omega.{arith}
 use Rattle.sharing.proofs.polynomial.put_coefficients.Statement.{statement}
 use Rattle.sharing.proofs.polynomial.put_coefficients.Tie as tie

@@ -5,7 +5,7 @@ use Rattle.algebra.proofs.Rows.{Filling, filling-start, filling-more, filling-e
 use Rattle.model.specs.Sharing.{eval, share}
 use borrow.Author.Needs.{needs}
 use mathlib.Core.List.{_∷_}
-use mathlib.Core.Path.{_≡_, ap, _∙_}
+use mathlib.Core.Path.{ap, _∙_}
 use native.Mathlib.Numerals.{add-one}
 use native.Mathlib.Omega.{arith}
 use Rattle.sharing.proofs.polynomial.share_row.Statement.{statement}

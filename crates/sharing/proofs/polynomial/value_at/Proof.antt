@@ -1,6 +1,6 @@
 -- `polynomial::value_at` meets its contract, by Horner's rule.
 -- Assumes nothing.
-use Prim.Native.Nat.{_≤_, _<_}
+use Prim.Native.Nat.{_≤_}
 use Rattle.model.specs.Sharing.{eval}
 use Rattle.sharing.proofs.Horner.{horner-start, horner, horner-end}
 use borrow.Author.Needs.{needs}

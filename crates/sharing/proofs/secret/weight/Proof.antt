@@ -13,7 +13,7 @@ use lib.Dec.{T, leb, eqb, ltb, eqb→eq, ltb→lt}
 use lib.ListN.{getD}
 use mathlib.Core.Bool.{Bool, true, _&&_, cond}
 use mathlib.Core.List.{List}
-use mathlib.Core.Path.{_≡_, refl, sym, ap, _∙_}
+use mathlib.Core.Path.{_≡_}
 use native.Mathlib.Omega.{arith}
 use Rattle.sharing.proofs.secret.weight.Statement.{statement}
 use Rattle.sharing.proofs.secret.weight.Tie as tie

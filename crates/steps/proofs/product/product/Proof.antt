@@ -7,10 +7,10 @@ use Rattle.algebra.specs.Lists.{over}
 use Rattle.steps.proofs.Products.{opened-is, left-is}
 use borrow.Author.Needs.{needs}
 use denote.Ref.{now}
-use lib.ListN.{length, take}
+use lib.ListN.{length}
 use lib.Seq.{length-take-le}
 use mathlib.Core.List.{List}
-use mathlib.Core.Path.{_≡_, refl, sym, ap, _∙_}
+use mathlib.Core.Path.{_≡_, sym, ap, _∙_}
 use native.Mathlib.Omega.{arith}
 use Rattle.steps.proofs.product.product.Statement.{statement}
 use Rattle.steps.proofs.product.product.Tie as tie

@@ -1,14 +1,12 @@
 -- `quotient::quotient_row` meets its contract: column by column.
 -- Assumes nothing.
 use Prim.Native.Nat.{_-_}
-use Prim.Native.Nat.{ℕ}
 use Rattle.algebra.proofs.Rows.{Filling, filling-start, filling-more, filling-end}
 use Rattle.algebra.specs.Ring.{sub, mul}
-use Rattle.algebra.specs.Rows.{row}
 use Rattle.steps.proofs.ByColumn.{quotient-columns}
 use borrow.Author.Needs.{needs}
 use lib.ListN.{getD}
-use mathlib.Core.Path.{sym, ap, _∙_}
+use mathlib.Core.Path.{sym, _∙_}
 use native.Mathlib.Omega.{arith}
 use Rattle.steps.proofs.quotient.quotient_row.Statement.{statement}
 use Rattle.steps.proofs.quotient.quotient_row.Tie as tie
