@@ -9,7 +9,7 @@ const USAGE: &str = "\
 usage: reference cases > FILE | reference answers < FILE
        reference step-cases > FILE | reference step-answers > FILE
        reference run-cases > FILE | reference run-answers < FILE
-       reference table < SHEET | reference example NAME > SHEET";
+       reference table < SHEET | reference example NAME > SHEET | reference largest > SHEET";
 
 fn main() -> ExitCode {
     let arguments: Vec<_> = std::env::args_os().skip(1).collect();
@@ -23,6 +23,7 @@ fn main() -> ExitCode {
         ["run-answers"] => run_answers(),
         ["table"] => read_in().and_then(|sheet| write_out(table::lines(&sheet).as_bytes())),
         ["example", name] => example(name),
+        ["largest"] => write_out(&sheets::bench::largest()),
         _ => {
             eprintln!("{USAGE}");
             return ExitCode::from(2);
