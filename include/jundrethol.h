@@ -40,12 +40,15 @@
 extern "C" {
 #endif
 
+/* The bytes of the largest sheet: a longer one is refused. */
+#define JUNDRETHOL_SHEET 59723
+
 /* No run outgrows a record and a revealed list of these lengths. */
 #define JUNDRETHOL_RECORD 10850
 #define JUNDRETHOL_REVEALED 511
 
-/* 64 registers of 7 cells, and the places in counts. */
-#define JUNDRETHOL_REGISTERS 448
+/* The cells of 64 registers, 7 each; the marks; and the places in counts. */
+#define JUNDRETHOL_CELLS 448
 #define JUNDRETHOL_MARKS 64
 #define JUNDRETHOL_COUNTS 5
 #define JUNDRETHOL_PLACE 0
@@ -57,8 +60,7 @@ extern "C" {
 /* Runs a sheet.
  *
  * record     gets n shares for each opening, party 1's first, in order: counts[JUNDRETHOL_OPENINGS] times n numbers.
- * revealed   gets the values of the finished REVEALs in order. Their count is not among the counts: fill the list with UINT32_MAX, which no
- *            value reaches, to see where they end.
+ * revealed   gets the values of the finished REVEALs in order: as many as openings - masks - 2 * triples, by counts.
  * registers  gets 448 cells: party j's share in register r is registers[7 * r + j - 1]. Cells past n and those of unset registers are 0.
  * marks      gets 64 bytes: 1 where the register is set, else 0.
  * counts     gets place, inputs, masks, triples and openings.
@@ -79,23 +81,25 @@ uint32_t jundrethol_run(
     uint64_t *counts, size_t counts_length);
 
 /* Shares a secret among n parties with t coefficients, the first power's first: share j goes to shares[j - 1]. The lengths are exactly t and
- * n. Answers 0, or 2, 3, 4, 5, and then nothing is written. */
+ * n. Answers 0, or a refusal 2, 3, 4 or 5, which writes nothing. */
 uint32_t jundrethol_share(
     uint32_t field, uint32_t n, uint32_t t, uint32_t secret,
     const uint32_t *coefficients, size_t coefficients_length,
     uint32_t *shares, size_t shares_length);
 
-/* Recovers secret and coefficients from the n shares of a row. The lengths are exactly n and t. Answers 0, or 2, 3, 4, 5, 6, and then the
- * secret is set to 0 and the coefficients are unchanged. */
+/* Recovers secret and coefficients from the n shares of a row. The lengths are exactly n and t. Answers 0, or a refusal 2, 3, 4, 5 or 6,
+ * which sets the secret to 0 and leaves the coefficients unchanged. */
 uint32_t jundrethol_recover(
     uint32_t field, uint32_t n, uint32_t t, uint32_t *secret,
     const uint32_t *row, size_t row_length,
     uint32_t *coefficients, size_t coefficients_length);
 
-/* A k-bit signed number, from -2^(k-1) to 2^(k-1) - 1, as a value of the field. Answers 0, or 2, 11, and then the value is set to 0. */
+/* A k-bit signed number, from -2^(k-1) to 2^(k-1) - 1, as a value of the field. Answers 0, or a refusal 2 or 11, which sets the
+ * value to 0. */
 uint32_t jundrethol_encode(uint32_t field, uint32_t k, int64_t number, uint32_t *value);
 
-/* A field value read back as a signed number: itself up to (p - 1)/2, else minus p. Answers 0, or 2, 5, and then the number is set to 0. */
+/* A field value read back as a signed number: itself up to (p - 1)/2, else minus p. Answers 0, or a refusal 2 or 5, which
+ * sets the number to 0. */
 uint32_t jundrethol_decode(uint32_t field, uint32_t value, int64_t *number);
 
 #ifdef __cplusplus

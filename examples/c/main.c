@@ -40,7 +40,8 @@ static void print_run(const uint32_t *record, const uint32_t *revealed, const ui
 {
     for (uint64_t i = 0; i < counts[JUNDRETHOL_OPENINGS]; i++)
         printf("opened %" PRIu32 " %" PRIu32 " %" PRIu32 "\n", record[3 * i], record[3 * i + 1], record[3 * i + 2]);
-    for (size_t i = 0; i < JUNDRETHOL_REVEALED && revealed[i] != UINT32_MAX; i++) {
+    uint64_t values = counts[JUNDRETHOL_OPENINGS] - counts[JUNDRETHOL_MASKS] - 2 * counts[JUNDRETHOL_TRIPLES];
+    for (uint64_t i = 0; i < values; i++) {
         int64_t reading = 0;
         expect(jundrethol_decode(0, revealed[i], &reading) == 0, "a revealed value is a field value");
         printf("revealed %" PRIu32 " signed %" PRId64 "\n", revealed[i], reading);
@@ -53,11 +54,9 @@ static void print_run(const uint32_t *record, const uint32_t *revealed, const ui
 static void run_sheet(void)
 {
     static uint8_t sheet[128];
-    static uint32_t record[JUNDRETHOL_RECORD], revealed[JUNDRETHOL_REVEALED], registers[JUNDRETHOL_REGISTERS];
+    static uint32_t record[JUNDRETHOL_RECORD], revealed[JUNDRETHOL_REVEALED], registers[JUNDRETHOL_CELLS];
     static uint8_t marks[JUNDRETHOL_MARKS];
     static uint64_t counts[JUNDRETHOL_COUNTS];
-    for (size_t i = 0; i < COUNT(revealed); i++)
-        revealed[i] = UINT32_MAX;
     size_t length = make_sheet(sheet);
     uint32_t number = jundrethol_run(sheet, length, record, COUNT(record), revealed, COUNT(revealed), registers, COUNT(registers), marks,
                                      COUNT(marks), counts, COUNT(counts));

@@ -4,16 +4,25 @@
 #[path = "c.rs"]
 mod c;
 
+/// No run outgrows a record and a revealed list of these lengths.
+pub const RECORD: usize = 10850;
+pub const REVEALED: usize = 511;
+
+/// The cells of 64 registers, 7 each.
+pub const CELLS: usize = 448;
+pub const MARKS: usize = 64;
+pub const COUNTS: usize = 5;
+
 /// The paper's number; register r's cells from 7r on; 1 for each register that is set; place, inputs, masks, triples, openings.
 pub struct Ran {
     pub number: u32,
-    pub registers: [u32; 448],
-    pub marks: [u8; 64],
-    pub counts: [u64; 5],
+    pub registers: [u32; CELLS],
+    pub marks: [u8; MARKS],
+    pub counts: [u64; COUNTS],
 }
 
 pub fn run(sheet: &[u8], record: &mut [u32], revealed: &mut [u32]) -> Ran {
-    let mut ran = Ran { number: 0, registers: [0; 448], marks: [0; 64], counts: [0; 5] };
+    let mut ran = Ran { number: 0, registers: [0; CELLS], marks: [0; MARKS], counts: [0; COUNTS] };
     ran.number = unsafe {
         c::jundrethol_run(
             sheet.as_ptr(),

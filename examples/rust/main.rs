@@ -24,15 +24,15 @@ fn make_sheet() -> Vec<u8> {
 
 fn run_sheet() {
     let sheet = make_sheet();
-    let mut record = vec![0; 10850];
-    // No value reaches u32::MAX: it shows where the revealed values end.
-    let mut revealed = vec![u32::MAX; 511];
+    let mut record = vec![0; jundrethol::RECORD];
+    let mut revealed = vec![0; jundrethol::REVEALED];
     let ran = jundrethol::run(&sheet, &mut record, &mut revealed);
     let [place, inputs, masks, triples, openings] = ran.counts;
     for shares in record.chunks(3).take(openings as usize) {
         println!("opened {} {} {}", shares[0], shares[1], shares[2]);
     }
-    for value in revealed.iter().take_while(|value| **value != u32::MAX) {
+    let values = openings - masks - 2 * triples;
+    for value in revealed.iter().take(values as usize) {
         let signed = jundrethol::decode(0, *value).expect("a revealed value is a field value");
         println!("revealed {value} signed {signed}");
     }

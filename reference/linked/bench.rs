@@ -5,7 +5,6 @@
 //! millisecond, and the side that starts changes from round to round. A round's time is that of one
 //! run on average. On a busy machine the best round tells most: a round is slowed by what else runs.
 
-#[path = "library.rs"]
 mod library;
 
 use std::hint::black_box;
@@ -41,6 +40,25 @@ struct Sides<'a> {
 }
 
 impl Sides<'_> {
+    fn new(sheet: &[u8]) -> Sides<'_> {
+        let before = Ran::before(RECORD, REVEALED, Lengths::WHOLE);
+        Sides {
+            sheet,
+            library: before.clone(),
+            reference: before,
+        }
+    }
+
+    /// Runs either side once, and says where they differ.
+    fn agree(&mut self) -> Result<(), String> {
+        self.by_library();
+        self.reference.by_reference(self.sheet);
+        match self.reference.difference(&self.library) {
+            Some(difference) => Err(difference),
+            None => Ok(()),
+        }
+    }
+
     fn by_library(&mut self) {
         library::run(&mut self.library, black_box(self.sheet));
         black_box(&mut self.library);
@@ -70,6 +88,23 @@ impl Sides<'_> {
         }
         runs
     }
+
+    /// The library's time and the reference's in each round.
+    fn rounds(&mut self, rounds: usize) -> (Vec<f64>, Vec<f64>) {
+        let library_runs = self.runs(Sides::by_library);
+        let reference_runs = self.runs(Sides::by_reference);
+        let (mut library, mut reference) = (Vec::new(), Vec::new());
+        for round in 0..rounds {
+            if round % 2 == 0 {
+                library.push(self.time(library_runs, Sides::by_library));
+                reference.push(self.time(reference_runs, Sides::by_reference));
+            } else {
+                reference.push(self.time(reference_runs, Sides::by_reference));
+                library.push(self.time(library_runs, Sides::by_library));
+            }
+        }
+        (library, reference)
+    }
 }
 
 struct Times {
@@ -87,65 +122,58 @@ impl Times {
     }
 }
 
-/// Prints the sheet's line, or says where the sides differ.
+/// Prints the sheet's lines, or says where the sides differ.
 fn measure(name: &str, sheet: &[u8], rounds: usize) -> Result<(), String> {
-    let before = Ran::before(RECORD, REVEALED, Lengths::WHOLE);
-    let mut sides = Sides {
-        sheet,
-        library: before.clone(),
-        reference: before,
-    };
-    sides.by_library();
-    sides.reference.by_reference(sheet);
-    if let Some(difference) = sides.reference.difference(&sides.library) {
-        return Err(format!(
-            "{name}: reference and library differ: {difference}"
-        ));
-    }
-    let library_runs = sides.runs(Sides::by_library);
-    let reference_runs = sides.runs(Sides::by_reference);
-    let (mut library, mut reference) = (Vec::new(), Vec::new());
-    for round in 0..rounds {
-        if round % 2 == 0 {
-            library.push(sides.time(library_runs, Sides::by_library));
-            reference.push(sides.time(reference_runs, Sides::by_reference));
-        } else {
-            reference.push(sides.time(reference_runs, Sides::by_reference));
-            library.push(sides.time(library_runs, Sides::by_library));
-        }
-    }
+    let mut sides = Sides::new(sheet);
+    sides
+        .agree()
+        .map_err(|message| format!("{name}: {message}"))?;
+    let (library, reference) = sides.rounds(rounds);
     let ratios = library.iter().zip(&reference).map(|(one, two)| one / two);
     let paired = Times::of(ratios.collect()).median;
     let (library, reference) = (Times::of(library), Times::of(reference));
-    for (which, library, reference) in [
-        ("median", library.median, reference.median),
-        ("best", library.best, reference.best),
-    ] {
-        let ratio = library / reference;
-        let (library, reference) = (library / 1000.0, reference / 1000.0);
-        println!(
-            "{name:<28} {which:<6}  library {library:>10.3} us  reference {reference:>10.3} us  \
-             ratio {ratio:.3}"
-        );
-    }
+    print_times(name, "median", library.median, reference.median);
+    print_times(name, "best", library.best, reference.best);
     println!("{name:<28} median of the rounds' ratios {paired:.3}");
     Ok(())
 }
 
+/// The times are in nanoseconds.
+fn print_times(name: &str, which: &str, library: f64, reference: f64) {
+    let ratio = library / reference;
+    let (library, reference) = (library / 1000.0, reference / 1000.0);
+    println!(
+        "{name:<28} {which:<6}  library {library:>10.3} us  reference {reference:>10.3} us  \
+         ratio {ratio:.3}"
+    );
+}
+
+/// The number of rounds, or which word is wrong.
+fn rounds(words: &[String]) -> Result<usize, String> {
+    match words {
+        [] => Ok(ROUNDS),
+        [word] => word
+            .parse()
+            .ok()
+            .filter(|&rounds| rounds > 0)
+            .ok_or_else(|| format!("ROUNDS is not a number from 1 on: {word}")),
+        [_, more, ..] => Err(format!("one word is allowed, and this is another: {more}")),
+    }
+}
+
 fn main() -> ExitCode {
-    let arguments: Vec<_> = std::env::args().skip(1).collect();
-    if arguments == ["--help"] {
+    let words = std::env::args_os().skip(1);
+    let words: Vec<_> = words.map(|word| word.to_string_lossy().into()).collect();
+    if words == ["--help"] {
         println!("{USAGE}");
         return ExitCode::SUCCESS;
     }
-    let rounds = match &arguments[..] {
-        [] => Some(ROUNDS),
-        [word] => word.parse().ok().filter(|&rounds| rounds > 0),
-        _ => None,
-    };
-    let Some(rounds) = rounds else {
-        eprintln!("{USAGE}");
-        return ExitCode::from(2);
+    let rounds = match rounds(&words) {
+        Ok(rounds) => rounds,
+        Err(message) => {
+            eprintln!("bench: {message}\n\n{USAGE}");
+            return ExitCode::from(2);
+        }
     };
     println!("{rounds} rounds");
     let sheets = [

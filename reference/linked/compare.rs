@@ -4,9 +4,9 @@
 //! cells, and both buffers to their last number; of a small entry (share, recover, encode, decode)
 //! number, value and the lent list. All that is written to is filled before with numbers that no
 //! run writes, so that a number too many, too few or left over is seen. The lists for registers,
-//! marks and counts are at times too short or too long. Differences are listed with the
-//! reference's number before the library's.
+//! marks and counts are at times too short or too long.
 
+mod entries;
 mod library;
 
 use std::process::ExitCode;
@@ -70,7 +70,7 @@ impl Tally {
 
     fn entry(&mut self, name: &str, case: &Case) {
         let reference = Entered::by_reference(case);
-        let library = library::enter(case);
+        let library = entries::enter(case);
         self.entries += 1;
         if let Some(difference) = reference.difference(&library) {
             self.differs(format!("{name}: {difference}\n  {case:?}"));
@@ -116,18 +116,38 @@ impl Tally {
     }
 }
 
+/// SEED, COUNT and FIRST, or which word is wrong.
+fn numbers(words: &[String]) -> Result<(u64, u64, u64), String> {
+    let number = |name: &str, word: &str| {
+        let parsed = word.parse();
+        parsed.map_err(|_| format!("{name} is not a number from 0 to 2^64 - 1: {word}"))
+    };
+    match words {
+        [] => Err("SEED is missing".to_owned()),
+        [_] => Err("COUNT is missing".to_owned()),
+        [seed, count] => Ok((number("SEED", seed)?, number("COUNT", count)?, 0)),
+        [seed, count, first] => Ok((
+            number("SEED", seed)?,
+            number("COUNT", count)?,
+            number("FIRST", first)?,
+        )),
+        [_, _, _, more, ..] => Err(format!(
+            "three words are allowed, and this is another: {more}"
+        )),
+    }
+}
+
 fn main() -> ExitCode {
-    let arguments: Vec<_> = std::env::args().skip(1).collect();
-    if arguments == ["--help"] {
+    let words = std::env::args_os().skip(1);
+    let words: Vec<_> = words.map(|word| word.to_string_lossy().into()).collect();
+    if words == ["--help"] {
         println!("{USAGE}");
         return ExitCode::SUCCESS;
     }
-    let numbers: Result<Vec<u64>, _> = arguments.iter().map(|word| word.parse()).collect();
-    let (seed, count, first) = match numbers.as_deref() {
-        Ok([seed, count]) => (*seed, *count, 0),
-        Ok([seed, count, first]) => (*seed, *count, *first),
-        _ => {
-            eprintln!("{USAGE}");
+    let (seed, count, first) = match numbers(&words) {
+        Ok(numbers) => numbers,
+        Err(message) => {
+            eprintln!("compare: {message}\n\n{USAGE}");
             return ExitCode::from(2);
         }
     };

@@ -1,5 +1,7 @@
 //! What a call leaves in everything that its caller lends, and where two calls differ.
 
+use std::fmt::Display;
+
 use crate::case::Case;
 use crate::cases::generator::Generator;
 use crate::run;
@@ -83,14 +85,14 @@ impl Ran {
         put(&mut self.counts, counts.map(|count| count as u64));
     }
 
-    /// Where the other run differs first.
-    pub fn difference(&self, other: &Ran) -> Option<String> {
-        list_difference("number", &[self.number], &[other.number])
-            .or_else(|| list_difference("counts", &self.counts, &other.counts))
-            .or_else(|| list_difference("marks", &self.marks, &other.marks))
-            .or_else(|| list_difference("registers", &self.registers, &other.registers))
-            .or_else(|| list_difference("record", &self.record, &other.record))
-            .or_else(|| list_difference("revealed", &self.revealed, &other.revealed))
+    /// Where the library's run differs first from this one, the reference's.
+    pub fn difference(&self, library: &Ran) -> Option<String> {
+        difference("number", self.number, library.number)
+            .or_else(|| list_difference("counts", &self.counts, &library.counts))
+            .or_else(|| list_difference("marks", &self.marks, &library.marks))
+            .or_else(|| list_difference("registers", &self.registers, &library.registers))
+            .or_else(|| list_difference("record", &self.record, &library.record))
+            .or_else(|| list_difference("revealed", &self.revealed, &library.revealed))
     }
 }
 
@@ -133,11 +135,11 @@ impl Entered {
         }
     }
 
-    /// Where the other call differs first.
-    pub fn difference(&self, other: &Entered) -> Option<String> {
-        list_difference("number", &[self.number], &[other.number])
-            .or_else(|| list_difference("value", &[self.value], &[other.value]))
-            .or_else(|| list_difference("lent", &self.lent, &other.lent))
+    /// Where the library's call differs first from this one, the reference's.
+    pub fn difference(&self, library: &Entered) -> Option<String> {
+        difference("number", self.number, library.number)
+            .or_else(|| difference("value", self.value, library.value))
+            .or_else(|| list_difference("lent", &self.lent, &library.lent))
     }
 }
 
@@ -153,18 +155,23 @@ fn put<T>(list: &mut [T], values: impl IntoIterator<Item = T>) {
     }
 }
 
-fn list_difference<T: PartialEq + std::fmt::Display>(
+fn difference<T: PartialEq + Display>(name: &str, reference: T, library: T) -> Option<String> {
+    let differ = reference != library;
+    differ.then(|| format!("{name}: reference {reference}, library {library}"))
+}
+
+fn list_difference<T: PartialEq + Display>(
     name: &str,
-    list: &[T],
-    other: &[T],
+    reference: &[T],
+    library: &[T],
 ) -> Option<String> {
-    if list.len() != other.len() {
-        let lengths = (list.len(), other.len());
-        return Some(format!("{name}: {} numbers, {}", lengths.0, lengths.1));
+    if reference.len() != library.len() {
+        let name = format!("length of {name}");
+        return difference(&name, reference.len(), library.len());
     }
-    let place = (0..list.len()).find(|&place| list[place] != other[place])?;
-    let (one, two) = (&list[place], &other[place]);
-    Some(format!("{name}[{place}]: {one}, {two}"))
+    let place = (0..reference.len()).find(|&place| reference[place] != library[place])?;
+    let name = format!("{name}[{place}]");
+    difference(&name, &reference[place], &library[place])
 }
 
 #[cfg(test)]
@@ -215,7 +222,10 @@ mod tests {
             change(&mut other);
             whole.difference(&other).expect("a difference")
         };
-        assert_eq!(seen(&|ran| ran.number = 4), "number[0]: 0, 4");
+        let number = seen(&|ran| ran.number = 4);
+        assert_eq!(number, "number: reference 0, library 4");
+        let triples = seen(&|ran| ran.counts[3] = 2);
+        assert_eq!(triples, "counts[3]: reference 1, library 2");
         for place in 0..COUNTS {
             seen(&|ran| ran.counts[place] += 1);
         }
@@ -232,7 +242,7 @@ mod tests {
             seen(&|ran| ran.revealed[place] -= 1);
         }
         let shorter = seen(&|ran| ran.record.truncate(11));
-        assert_eq!(shorter, "record: 12 numbers, 11");
+        assert_eq!(shorter, "length of record: reference 12, library 11");
     }
 
     #[test]

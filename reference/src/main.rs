@@ -5,16 +5,35 @@ use std::process::ExitCode;
 
 use reference::{case, cases, line, run_case, sheets, steps, table};
 
-const USAGE: &str = "\
-usage: reference cases > FILE | reference answers < FILE
-       reference step-cases > FILE | reference step-answers > FILE
-       reference run-cases > FILE | reference run-answers < FILE
-       reference table < SHEET | reference example NAME > SHEET";
+const USAGE: &str = "usage: reference WORD [NAME]    (reference --help says what each word does)";
+
+/// NAMES stands for the names of the examples.
+const HELP: &str = "\
+usage: reference WORD [NAME]
+
+Reads standard input where a word says so, and writes to standard output.
+
+cases         writes the stored calls of the small entries
+answers       reads such calls and writes their answers
+step-cases    writes the stored cases of the steps
+step-answers  writes the answers to those
+run-cases     writes the stored sheets, each with the lengths of its lent buffers
+run-answers   reads such sheets and writes all that each run leaves
+table         reads a sheet and writes the lines of its run
+example NAME  writes an example sheet; the names are NAMES
+largest       writes a sheet that reaches every limit
+--help        writes this
+
+Exits with 1 if the work fails, with 2 if the words are wrong.
+";
 
 fn main() -> ExitCode {
-    let arguments: Vec<_> = std::env::args_os().skip(1).collect();
-    let arguments: Vec<_> = arguments.iter().filter_map(|word| word.to_str()).collect();
-    let outcome = match arguments[..] {
+    let words = match words() {
+        Ok(words) => words,
+        Err(message) => return refuse(&message),
+    };
+    let words: Vec<&str> = words.iter().map(String::as_str).collect();
+    let outcome = match words[..] {
         ["cases"] => write_out(&all_bytes(&cases::all(), |case| case.to_bytes())),
         ["answers"] => answers(),
         ["step-cases"] => write_out(&all_bytes(&steps::cases::all(), |case| case.to_bytes())),
@@ -23,10 +42,11 @@ fn main() -> ExitCode {
         ["run-answers"] => run_answers(),
         ["table"] => read_in().and_then(|sheet| write_out(table::lines(&sheet).as_bytes())),
         ["example", name] => example(name),
-        _ => {
-            eprintln!("{USAGE}");
-            return ExitCode::from(2);
-        }
+        ["largest"] => write_out(&sheets::bench::largest()),
+        ["--help"] => write_out(HELP.replace("NAMES", &example_names()).as_bytes()),
+        [] => return refuse("a word is missing"),
+        ["example"] => return refuse("example: the NAME is missing"),
+        _ => return refuse(&format!("not understood: {}", words.join(" "))),
     };
     match outcome {
         Ok(()) => ExitCode::SUCCESS,
@@ -35,6 +55,20 @@ fn main() -> ExitCode {
             ExitCode::from(1)
         }
     }
+}
+
+fn words() -> Result<Vec<String>, String> {
+    let text = |word: std::ffi::OsString| {
+        word.into_string()
+            .map_err(|word| format!("not UTF-8: {word:?}"))
+    };
+    std::env::args_os().skip(1).map(text).collect()
+}
+
+/// For words that are wrong.
+fn refuse(message: &str) -> ExitCode {
+    eprintln!("reference: {message}\n{USAGE}");
+    ExitCode::from(2)
 }
 
 fn all_bytes<T>(cases: &[T], bytes: impl Fn(&T) -> Vec<u8>) -> Vec<u8> {
@@ -66,9 +100,14 @@ fn run_answers() -> Result<(), String> {
 }
 
 fn example(name: &str) -> Result<(), String> {
-    let names = sheets::examples::NAMES.join(", ");
-    let sheet = sheets::examples::named(name).ok_or(format!("the examples are {names}"))?;
+    let names = example_names();
+    let sheet = sheets::examples::named(name)
+        .ok_or_else(|| format!("no example {name}; the examples are {names}"))?;
     write_out(&sheet)
+}
+
+fn example_names() -> String {
+    sheets::examples::NAMES.join(", ")
 }
 
 fn read_in() -> Result<Vec<u8>, String> {

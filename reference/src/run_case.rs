@@ -84,10 +84,18 @@ fn read_one(bytes: &[u8]) -> Result<(Case, &[u8]), String> {
         record: length(1),
         revealed: length(2),
     };
-    if case.record > LONGEST_RECORD || case.revealed > LONGEST_REVEALED {
-        return Err("a buffer is too long".to_string());
-    }
+    check_length("record", case.record, LONGEST_RECORD)?;
+    check_length("revealed list", case.revealed, LONGEST_REVEALED)?;
     Ok((case, rest))
+}
+
+fn check_length(name: &str, length: usize, longest: usize) -> Result<(), String> {
+    if length > longest {
+        return Err(format!(
+            "its {name} is to have {length} numbers, and at most {longest} are allowed"
+        ));
+    }
+    Ok(())
 }
 
 /// The end, the set registers, how many cells of unset ones are not 0, and both buffers.
@@ -166,10 +174,21 @@ revealed
         for length in [1, 11, 12, bytes.len() - 1] {
             assert!(read_all(&bytes[..length]).is_err());
         }
-        for (place, value) in [(6, 1), (9, 3)] {
+        for (place, value, said) in [
+            (
+                6,
+                1,
+                "its record is to have 65548 numbers, and at most 12000 are allowed",
+            ),
+            (
+                9,
+                3,
+                "its revealed list is to have 771 numbers, and at most 600 are allowed",
+            ),
+        ] {
             let mut bytes = bytes.clone();
             bytes[place] = value;
-            assert!(read_all(&bytes).is_err());
+            assert_eq!(read_all(&bytes), Err(format!("case 0: {said}")));
         }
     }
 }

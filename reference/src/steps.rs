@@ -114,7 +114,7 @@ impl<'a> Work<'a> {
         self.sign(&difference, k)
     }
 
-    /// BLOCKS, today equal to TRUNC
+    /// BLOCKS: the finished blocks of 2^m seconds, which is the floor
     pub fn blocks(&mut self, a: &Row, k: u32, m: u32) -> Option<Row> {
         self.floor(a, k, m)
     }

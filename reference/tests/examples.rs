@@ -50,32 +50,50 @@ fn quoted_bytes(line: &str) -> Option<(usize, Vec<u8>)> {
     Some((offset, bytes.collect()))
 }
 
-/// Holds an indented line to the example's sheet or to the lines of its run. Whether it is a
-/// quotation.
-fn is_quotation(line: &str, name: &str) -> bool {
-    let sheet = named(name).unwrap_or_else(|| panic!("no example {name}"));
-    if is_printed(line) {
-        let printed = table::lines(&sheet);
-        assert!(printed.lines().any(|it| it == line), "{name}: {line}");
-        return true;
+/// An example that a document quotes, and how many lines of its run stand before the next quotation.
+struct Quoted {
+    name: String,
+    passed: usize,
+}
+
+impl Quoted {
+    fn new(name: &str) -> Quoted {
+        Quoted {
+            name: name.to_owned(),
+            passed: 0,
+        }
     }
-    let Some((offset, bytes)) = quoted_bytes(line) else {
-        return false;
-    };
-    assert!(!bytes.is_empty(), "{name}: {line}");
-    assert!(sheet[offset..].starts_with(&bytes), "{name}: {line}");
-    true
+
+    /// Holds an indented line to the example's sheet or to the lines of its run, which are quoted in
+    /// their order. Whether it is a quotation.
+    fn holds(&mut self, line: &str) -> bool {
+        let name = &self.name;
+        let sheet = named(name).unwrap_or_else(|| panic!("no example {name}"));
+        if is_printed(line) {
+            let printed = table::lines(&sheet);
+            let place = printed.lines().skip(self.passed).position(|it| it == line);
+            let place = place.unwrap_or_else(|| panic!("{name}: not printed, or earlier: {line}"));
+            self.passed += place + 1;
+            return true;
+        }
+        let Some((offset, bytes)) = quoted_bytes(line) else {
+            return false;
+        };
+        assert!(!bytes.is_empty(), "{name}: {line}");
+        assert!(sheet[offset..].starts_with(&bytes), "{name}: {line}");
+        true
+    }
 }
 
 /// The number of quotations in a document. A heading of the third level names the example.
 fn quotations(document: &str, first: &str) -> usize {
-    let mut name = first.to_owned();
+    let mut example = Quoted::new(first);
     let mut count = 0;
     for line in text(document).lines() {
         if let Some(heading) = line.strip_prefix("### ") {
-            name = heading.to_owned();
+            example = Quoted::new(heading);
         } else if let Some(code) = line.strip_prefix("    ") {
-            count += usize::from(is_quotation(code, &name));
+            count += usize::from(example.holds(code));
         }
     }
     count

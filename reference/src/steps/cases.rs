@@ -68,38 +68,75 @@ impl Maker<'_> {
     /// The operand −2^(k−1) makes X 0 and C equal to r.
     fn masked(&mut self) -> Vec<StepCase> {
         let mut cases = Vec::new();
-        let (p, largest) = (self.dealer.field.modulus, self.dealer.field.largest_k);
+        let largest = self.dealer.field.largest_k;
         let widths = [(largest, largest - 1), (largest, 1), (2, 1)];
         let kept = if self.dealer.parties == PARTIES[0] {
             3
         } else {
             1
         };
-        for (k, m) in widths.into_iter().take(kept) {
-            let half = 1 << (k - 1);
-            let (lowest, highest) = (p - half, half - 1);
-            for (a, r) in [
-                (lowest, 0),
-                (lowest, p - 1),
-                (p - 1, p - 1),
-                (highest, 5),
-                (half, 0),
-            ] {
-                cases.push(self.masked_case(Step::Mod, (k, m, 0), a, r));
-            }
-            for (step, a, v) in [
-                (Step::Trunc, lowest, 0),
-                (Step::Trunc, p - 1, 0),
-                (Step::Ltz, p - 1, 0),
-                (Step::Over, highest, 0),
-                (Step::Over, 1, 1),
-                (Step::Blocks, highest, 0),
-            ] {
-                let r = self.dealer.generator.below(p);
-                cases.push(self.masked_case(step, (k, m, v), a, r));
-            }
+        for width in widths.into_iter().take(kept) {
+            cases.extend(self.remainders(width));
+            cases.extend(self.floors(width));
+            cases.extend(self.signs(width));
         }
         cases
+    }
+
+    fn remainders(&mut self, (k, m): (u32, u32)) -> Vec<StepCase> {
+        let (lowest, highest) = self.ends(k);
+        let p = self.dealer.field.modulus;
+        [
+            (lowest, 0),
+            (lowest, p - 1),
+            (p - 1, p - 1),
+            (highest, 5),
+            (highest + 1, 0),
+        ]
+        .into_iter()
+        .map(|(a, r)| self.masked_case(Step::Mod, (k, m, 0), a, r))
+        .collect()
+    }
+
+    fn floors(&mut self, (k, m): (u32, u32)) -> Vec<StepCase> {
+        let (lowest, highest) = self.ends(k);
+        let last = self.dealer.field.modulus - 1;
+        [
+            (Step::Trunc, lowest),
+            (Step::Trunc, last),
+            (Step::Blocks, highest),
+        ]
+        .into_iter()
+        .map(|(step, a)| self.with_any_mask(step, (k, m, 0), a))
+        .collect()
+    }
+
+    /// LTZ and OVER take no m: the two widths with the largest k have operands of their own. With
+    /// v = -1 OVER works on the other end than its operand's.
+    fn signs(&mut self, (k, m): (u32, u32)) -> Vec<StepCase> {
+        let (lowest, highest) = self.ends(k);
+        let last = self.dealer.field.modulus - 1;
+        let (ltz, over) = match (k, m) {
+            (2, _) => (vec![lowest, highest, last], [(highest, 0), (1, 1)]),
+            (_, 1) => (vec![highest], [(highest, last), (lowest, last)]),
+            _ => (vec![lowest], [(highest, 0), (1, 1)]),
+        };
+        let ltz = ltz.into_iter().map(|a| (Step::Ltz, a, 0));
+        let over = over.into_iter().map(|(a, v)| (Step::Over, a, v));
+        ltz.chain(over)
+            .map(|(step, a, v)| self.with_any_mask(step, (k, m, v), a))
+            .collect()
+    }
+
+    /// The lowest and the highest number of k bits, modulo p.
+    fn ends(&self, k: u32) -> (u32, u32) {
+        let half = 1 << (k - 1);
+        (self.dealer.field.modulus - half, half - 1)
+    }
+
+    fn with_any_mask(&mut self, step: Step, kmv: (u32, u32, u32), a: u32) -> StepCase {
+        let r = self.dealer.random_value();
+        self.masked_case(step, kmv, a, r)
     }
 
     fn masked_case(&mut self, step: Step, (k, m, v): (u32, u32, u32), a: u32, r: u32) -> StepCase {
@@ -140,6 +177,8 @@ impl Maker<'_> {
 #[cfg(test)]
 mod tests {
     use super::*;
+    use crate::field::FIELDS;
+    use crate::weights::Weights;
 
     const STEPS: [Step; 7] = [
         Step::Mul,
@@ -157,6 +196,43 @@ mod tests {
             let openings = case.masks.len() + 2 * case.triples.len();
             assert_eq!(case.answer().unwrap().opened.len(), openings);
         }
+    }
+
+    /// By three parties: LTZ at the ends of the smallest and the largest k, OVER where v - a is at
+    /// those of the largest.
+    #[test]
+    fn signs_are_taken_at_both_ends_of_the_range() {
+        let cases = all();
+        let asked = |largest| [(Step::Ltz, 2), (Step::Ltz, largest), (Step::Over, largest)];
+        for (number, step, k) in (0..4).flat_map(|number| {
+            asked(FIELDS[number].largest_k).map(|(step, k)| (number as u32, step, k))
+        }) {
+            let asked = cases.iter().filter(|case| {
+                (case.number, case.parties, case.step, case.k) == (number, 3, step, k)
+            });
+            let numbers: Vec<u64> = asked.map(worked_on).collect();
+            let half = 1 << (k - 1);
+            let lowest = u64::from(FIELDS[number as usize].modulus) - half;
+            assert!(numbers.contains(&lowest), "{step:?} {number} {k}");
+            assert!(numbers.contains(&(half - 1)), "{step:?} {number} {k}");
+        }
+    }
+
+    /// The number whose sign is taken.
+    fn worked_on(case: &StepCase) -> u64 {
+        let weights = Weights::new(case.field, case.parties as usize, case.threshold as usize);
+        let a = weights.secret(&case.operands[0]);
+        match case.step {
+            Step::Over => case.field.subtract(case.v.into(), a),
+            _ => a,
+        }
+    }
+
+    /// The proved program reads so many bytes.
+    #[test]
+    fn cases_fit_the_program_that_runs_them() {
+        let bytes: usize = all().iter().map(|case| case.to_bytes().len()).sum();
+        assert!(bytes <= 400_000, "{bytes}");
     }
 
     #[test]

@@ -16,46 +16,99 @@ pub fn all(generator: &mut Generator) -> Vec<Case> {
     cases
 }
 
-/// Fewer values at the larger widths of the larger fields, whose masks take many triples.
-fn masked(generator: &mut Generator, number: u32) -> Vec<Case> {
-    let field = &FIELDS[number as usize];
-    let (p, largest) = (field.modulus, field.largest_k as u8);
-    let mut cases = Vec::new();
-    for (k, m) in [(2, 1), (largest, 1), (largest, largest - 1)] {
-        let half = 1u32 << (k - 1);
-        let values = [p - half, half - 1, p - half - 1, half, p - 1, 0];
-        let kept = match number {
-            0 | 1 => 6,
-            2 => 4,
-            _ => 2,
-        };
-        for (i, &a) in values.iter().take(kept).enumerate() {
-            let masks: &[u32] = if number == 0 {
-                &[0, p - 1]
-            } else {
-                &[(p - 1) * (i as u32 % 2)]
-            };
-            for &r in masks {
-                let command = command(cases.len(), k, m);
-                let commands = [Command::Load { d: 0 }, command, Command::Reveal { a: 1 }];
-                cases.push(case(generator, number, &commands, &[a], &[r]));
-            }
-        }
-    }
-    cases
+/// A command that takes a mask, by its byte, with its k and m.
+type Masked = (u8, u8, u8);
+
+/// A run of such a command: the number that it works on and its mask, both modulo p.
+struct Run {
+    masked: Masked,
+    value: u32,
+    r: u32,
 }
 
-/// The commands that take a mask by turns; LTZ and OVER where m is k - 1.
-fn command(turn: usize, k: u8, m: u8) -> Command {
-    let (d, a) = (1, 0);
-    let turns = if m == k - 1 { 5 } else { 3 };
-    match turn % turns {
-        0 => Command::Mod { d, a, k, m },
-        1 => Command::Trunc { d, a, k, m },
-        2 => Command::Blocks { d, a, k, m },
-        3 => Command::Ltz { d, a, k },
-        _ => Command::Over { d, a, k, v: 0 },
+/// Five commands to a sheet, since five take at most 435 of its 512 triples.
+fn masked(generator: &mut Generator, number: u32) -> Vec<Case> {
+    let runs = runs(number);
+    runs.chunks(5)
+        .map(|runs| sheet_of(generator, number, runs))
+        .collect()
+}
+
+fn sheet_of(generator: &mut Generator, number: u32, runs: &[Run]) -> Case {
+    let p = FIELDS[number as usize].modulus;
+    let mut commands = Vec::new();
+    for (register, run) in (0..).zip(runs) {
+        commands.extend([
+            Command::Load { d: register },
+            command(run, register, p),
+            Command::Reveal { a: register },
+        ]);
     }
+    let secrets: Vec<u32> = runs.iter().map(|run| run.value).collect();
+    let masks: Vec<u32> = runs.iter().map(|run| run.r).collect();
+    case(generator, number, &commands, &secrets, &masks)
+}
+
+/// OVER works on v - a, which for v = 2a is a.
+fn command(run: &Run, register: u8, p: u32) -> Command {
+    let (d, a) = (register, register);
+    let (byte, k, m) = run.masked;
+    match byte {
+        0x07 => Command::Mod { d, a, k, m },
+        0x08 => Command::Trunc { d, a, k, m },
+        0x09 => Command::Ltz { d, a, k },
+        0x0A => {
+            let v = 2 * run.value % p;
+            Command::Over { d, a, k, v }
+        }
+        _ => Command::Blocks { d, a, k, m },
+    }
+}
+
+/// The mask changes with every value and with every second command, so that each value has both.
+fn runs(number: u32) -> Vec<Run> {
+    let p = FIELDS[number as usize].modulus;
+    let commands = masked_commands(FIELDS[number as usize].largest_k as u8);
+    let with = |(turn, &masked): (usize, &Masked)| {
+        let values = values(number, masked.1, turn);
+        let run = move |(i, value)| Run {
+            masked,
+            value,
+            r: (p - 1) * ((turn / 2 + i) as u32 % 2),
+        };
+        values.into_iter().enumerate().map(run).collect::<Vec<_>>()
+    };
+    commands.iter().enumerate().flat_map(with).collect()
+}
+
+/// The ends of k, and those of m where there is one; LTZ and OVER have m = k - 1.
+fn masked_commands(largest: u8) -> Vec<Masked> {
+    let mut commands = Vec::new();
+    for (k, m) in [(2, 1), (largest, 1), (largest, largest - 1)] {
+        let bytes: &[u8] = if m == k - 1 {
+            &[0x07, 0x08, 0x09, 0x0A, 0x0B]
+        } else {
+            &[0x07, 0x08, 0x0B]
+        };
+        commands.extend(bytes.iter().map(|&byte| (byte, k, m)));
+    }
+    commands
+}
+
+/// The ends of the range, their neighbours outside, -1 and 0. The larger fields, whose masks take
+/// many triples, have fewer of them, the last one by turns.
+fn values(number: u32, k: u8, turn: usize) -> Vec<u32> {
+    let p = FIELDS[number as usize].modulus;
+    let half = 1u32 << (k - 1);
+    let mut outside = [p - half - 1, half];
+    let mut middle = [p - 1, 0];
+    if turn % 2 == 1 {
+        outside.reverse();
+        middle.reverse();
+    }
+    let kept = [6, 5, 4, 3][number as usize];
+    let values = [[p - half, half - 1], outside, middle];
+    values.into_iter().flatten().take(kept).collect()
 }
 
 /// v at both ends of w = 1, 2 and 31, against itself and a neighbour.
