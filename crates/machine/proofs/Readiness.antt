@@ -19,6 +19,7 @@ use Rattle.model.specs.Steps.{Setting, Row, Deal, Step, value, comparison}
 use Rattle.model.specs.Run as Run
 use Rattle.model.proofs.Acceptance.{wider}
 use Rattle.model.proofs.Taking.{Took, took-comparison}
+use Rattle.steps.specs.Masked.{MaskedRoom, MaskedLeaves}
 use Rattle.steps.proofs.Following.{triples-drop}
 use Rattle.steps.proofs.Putting.{length-rows}
 use Rattle.sheet.specs.declared.frame.Frame.{Frame}
@@ -29,7 +30,7 @@ use Rattle.machine.specs.Tables.{registerIn, putTable, countsOf, paid}
 use Rattle.machine.specs.Holding.{Holds, Ready, Performs, inputsOf, maskPlace, triplePlace, logPlace}
 use Rattle.machine.proofs.Keeping.{Left, putCost, putState, opened-left, register-is, holds-reveal, performs-put}
 use Rattle.machine.proofs.Registers.{from-sevens}
-use Rattle.machine.proofs.Places.{n-most, l-most, field-of, mask-fits, triples-fit, mask-at}
+use Rattle.machine.proofs.Places.{n-most, t-most, l-most, field-of, mask-fits, triples-fit, mask-at}
 
 -- the places lie within the sheet and the record
 pub record Within (s : List ℕ) (f : Frame) (log : ℕ) (t : Table) : Type 0 where
@@ -207,14 +208,22 @@ next-fits R hs hl =
 -- what a masked step asks of its places
 module _ {s : List ℕ} {f : Frame} {log : ℕ} {t : Table} {d a k m mask i at : ℕ} (M : Masked s f log t d a k m)
     (N : (mask ≡ maskPlace f t) × (i ≡ triplePlace f t) × (at ≡ logPlace f t)) where
-  pub mask-room : mask + f .l * (4 * f .n) ≤ length s
-  mask-room = omega (arith, M .mask-room, N .0)
-
-  pub triple-room : i + (f .l + 2 * m - 2) * (12 * f .n) ≤ length s
-  triple-room = omega (arith, M .triple-room, N .1)
-
-  pub part-room : (part : List ℕ) → length part ≡ log → f .n + (f .l + 2 * m - 2) * (f .n + f .n) ≤ length (midOf at (length part - at) part)
-  part-room part e = simp (length-take, length-drop) (omega (arith, M .log-room, N .2))
+  pub masked-room : Framed s f → (part : List ℕ) → length part ≡ log
+      → MaskedRoom (f .p) (f .l) (f .n) (f .t) k m mask i s (midOf at (length part - at) part)
+  masked-room F part e = (
+    field-of F .modulus-is,
+    n-most F,
+    t-most F,
+    M .m-least,
+    M .m-most,
+    M .k-most,
+    M .power,
+    M .m-within,
+    l-most F,
+    omega (arith, M .mask-room, N .0),
+    omega (arith, M .triple-room, N .1),
+    simp (length-take, length-drop) (omega (arith, M .log-room, N .2)),
+  )
 
 -- A masked command, whose step is given with what it takes and opens and with what the code's call ensures of it.
 pub masked-performs : {s : List ℕ} {f : Frame} {t r : Table} {log shown last : List ℕ} {d a k m mask i at : ℕ} {y z : Row} (c : Command) (step : Row → Deal → Step)
@@ -222,8 +231,7 @@ pub masked-performs : {s : List ℕ} {f : Frame} {t r : Table} {log shown last :
     → ((x : Run.State) → Run.finish (settingIn f) (inputsOf s f) c x ≡ putState (cost (f .l) c) d x (step (Run.register x a) (x .deal)))
     → ((w : Row) (e : Deal) → length (first [] (e .masks)) ≡ f .l → Took e 1 (f .l + 2 * m - 2) (1 + 2 * (f .l + 2 * m - 2)) (step w e))
     → (mask ≡ maskPlace f t) × (i ≡ triplePlace f t) × (at ≡ logPlace f t) → y ≡ registerIn t a
-    → ((count : ℕ) (e : Deal) → first [] (e .masks) ≡ rowsAt s (f .n) mask (f .l) → e .triples ≡ triplesFrom s (f .n) i count → f .l + 2 * m ≤ count + 2
-    → (z ≡ step y e .left) × (last ≡ over (Run.written (f .n) (step y e .opened)) (midOf at (length log - at) log)))
+    → MaskedLeaves (f .p) (f .l) (f .n) (f .t) m mask i s (step y) z (midOf at (length log - at) log) last
     → length z ≡ 7 → r ≡ putTable t d z → Performs s f c t log shown r (putMid at (length log - at) log last) shown
 masked-performs {f = f} {t} {d = d} {a} {m = m} {z = z} c step F M ec ef took N ey ens seven er =
     performs-put c d 0 1 (f .l + 2 * m - 2) (1 + 2 * (f .l + 2 * m - 2)) (a ∷ []) z (λ x. step (Run.register x a) (x .deal)) ec ef (M .d-in) (n-most F) seven er

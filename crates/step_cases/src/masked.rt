@@ -2,6 +2,7 @@
 ghost use Prim.Native.Nat.{_+_, _-_, _*_, _^_, _≤_, _<_};
 ghost use lib.ListN.{length};
 ghost use Rattle.model.specs.Fields as Fields;
+ghost use Rattle.steps.specs.Masked.{MaskedRoom};
 use crate::print::answer;
 use crate::words::times;
 use crate::words::up_to;
@@ -69,7 +70,7 @@ fn blocks_row(
     i: usize,
     part: &mut [u32],
 ) -> Row
-    requires { ⌜ Fields.Modulus p × (40 + 4 * n ≤ length (now s)) × (n ≤ 7) × (t ≤ 3) × (1 ≤ m) × (m < k) × (k ≤ 30) × (2 ^ k < p) × (m ≤ l) × (l ≤ 31) × (mask + l * (4 * n) ≤ length (now s)) × (i + (l + 2 * m - 2) * (12 * n) ≤ length (now s)) × (n + (l + 2 * m - 2) * (n + n) ≤ length (now part)) ⌝ }
+    requires { ⌜ (40 + 4 * n ≤ length (now s)) × MaskedRoom p l n t k m mask i (now s) (now part) ⌝ }
 {
     let a = rows::read_row(s, n, 40);
     match word(s, 0) {
@@ -113,7 +114,7 @@ fn sign_row(
     i: usize,
     part: &mut [u32],
 ) -> Row
-    requires { ⌜ Fields.Modulus p × (40 + 4 * n ≤ length (now s)) × (n ≤ 7) × (t ≤ 3) × (2 ≤ k) × (k ≤ 30) × (2 ^ k < p) × (k - 1 ≤ l) × (l ≤ 31) × (mask + l * (4 * n) ≤ length (now s)) × (i + (l + 2 * (k - 1) - 2) * (12 * n) ≤ length (now s)) × (n + (l + 2 * (k - 1) - 2) * (n + n) ≤ length (now part)) ⌝ }
+    requires { ⌜ (40 + 4 * n ≤ length (now s)) × MaskedRoom p l n t k (k - 1) mask i (now s) (now part) ⌝ }
 {
     let a = rows::read_row(s, n, 40);
     if word(s, 0) == 9 {

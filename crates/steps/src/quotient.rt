@@ -1,13 +1,10 @@
 // TRUNC, LTZ, OVER and BLOCKS: MOD, and a last line over rows.
 ghost use mathlib.Core.Path.{_≡_};
-ghost use Prim.Native.Nat.{ℕ, _+_, _-_, _*_, _^_, _≤_, _<_};
-ghost use lib.ListN.{length};
-ghost use Rattle.algebra.specs.Lists as Lists;
+ghost use Prim.Native.Nat.{ℕ, _-_, _≤_};
 ghost use Rattle.model.specs.Fields as Fields;
-ghost use Rattle.model.specs.Sheet as Sheet;
 ghost use Rattle.model.specs.Steps as Steps;
-ghost use Rattle.model.specs.Run.{written};
 ghost use Rattle.steps.specs.Settings.{setting};
+ghost use Rattle.steps.specs.Masked.{MaskedRoom, MaskedLeaves};
 use crate::columns;
 use crate::remainder;
 use field::arithmetic;
@@ -57,8 +54,8 @@ pub fn floor(
     i: usize,
     part: &mut [u32],
 ) -> Row
-    requires { ⌜ Fields.Modulus p × (n ≤ 7) × (t ≤ 3) × (1 ≤ m) × (m < k) × (k ≤ 30) × (2 ^ k < p) × (m ≤ l) × (l ≤ 31) × (mask + l * (4 * n) ≤ length (now s)) × (i + (l + 2 * m - 2) * (12 * n) ≤ length (now s)) × (n + (l + 2 * m - 2) * (n + n) ≤ length (now part)) ⌝ }
-    ensures { λ r. ⌜ ((count : ℕ) (d : Steps.Deal) → Steps.nextMask (setting p l n t) d ≡ Sheet.rowsAt (now (s .entry)) n mask l → d .triples ≡ Sheet.triplesFrom (now (s .entry)) n i count → l + 2 * m ≤ count + 2 → (r .shares ≡ Steps.floor (setting p l n t) k m (a .shares) d .left) × (now (part .exit) ≡ Lists.over (written n (Steps.floor (setting p l n t) k m (a .shares) d .opened)) (now (part .entry)))) ⌝ }
+    requires { ⌜ MaskedRoom p l n t k m mask i (now s) (now part) ⌝ }
+    ensures { λ r. ⌜ MaskedLeaves p l n t m mask i (now (s .entry)) (Steps.floor (setting p l n t) k m (a .shares)) (r .shares) (now (part .entry)) (now (part .exit)) ⌝ }
 {
     let remainder = remainder::remainder(p, l, n, t, k, m, a, s, mask, i, part);
     quotient_row(p, n, m, a, remainder)
@@ -77,8 +74,8 @@ pub fn sign(
     i: usize,
     part: &mut [u32],
 ) -> Row
-    requires { ⌜ Fields.Modulus p × (n ≤ 7) × (t ≤ 3) × (2 ≤ k) × (k ≤ 30) × (2 ^ k < p) × (k - 1 ≤ l) × (l ≤ 31) × (mask + l * (4 * n) ≤ length (now s)) × (i + (l + 2 * (k - 1) - 2) * (12 * n) ≤ length (now s)) × (n + (l + 2 * (k - 1) - 2) * (n + n) ≤ length (now part)) ⌝ }
-    ensures { λ r. ⌜ ((count : ℕ) (d : Steps.Deal) → Steps.nextMask (setting p l n t) d ≡ Sheet.rowsAt (now (s .entry)) n mask l → d .triples ≡ Sheet.triplesFrom (now (s .entry)) n i count → l + 2 * (k - 1) ≤ count + 2 → (r .shares ≡ Steps.sign (setting p l n t) k (a .shares) d .left) × (now (part .exit) ≡ Lists.over (written n (Steps.sign (setting p l n t) k (a .shares) d .opened)) (now (part .entry)))) ⌝ }
+    requires { ⌜ MaskedRoom p l n t k (k - 1) mask i (now s) (now part) ⌝ }
+    ensures { λ r. ⌜ MaskedLeaves p l n t (k - 1) mask i (now (s .entry)) (Steps.sign (setting p l n t) k (a .shares)) (r .shares) (now (part .entry)) (now (part .exit)) ⌝ }
 {
     let quotient = floor(p, l, n, t, k, k - 1, a, s, mask, i, part);
     sign_row(p, n, quotient)
@@ -98,8 +95,8 @@ pub fn over(
     i: usize,
     part: &mut [u32],
 ) -> Row
-    requires { ⌜ Fields.Modulus p × (n ≤ 7) × (t ≤ 3) × (2 ≤ k) × (k ≤ 30) × (2 ^ k < p) × (k - 1 ≤ l) × (l ≤ 31) × (mask + l * (4 * n) ≤ length (now s)) × (i + (l + 2 * (k - 1) - 2) * (12 * n) ≤ length (now s)) × (n + (l + 2 * (k - 1) - 2) * (n + n) ≤ length (now part)) ⌝ }
-    ensures { λ r. ⌜ ((count : ℕ) (d : Steps.Deal) → Steps.nextMask (setting p l n t) d ≡ Sheet.rowsAt (now (s .entry)) n mask l → d .triples ≡ Sheet.triplesFrom (now (s .entry)) n i count → l + 2 * (k - 1) ≤ count + 2 → (r .shares ≡ Steps.over (setting p l n t) k v (a .shares) d .left) × (now (part .exit) ≡ Lists.over (written n (Steps.over (setting p l n t) k v (a .shares) d .opened)) (now (part .entry)))) ⌝ }
+    requires { ⌜ MaskedRoom p l n t k (k - 1) mask i (now s) (now part) ⌝ }
+    ensures { λ r. ⌜ MaskedLeaves p l n t (k - 1) mask i (now (s .entry)) (Steps.over (setting p l n t) k v (a .shares)) (r .shares) (now (part .entry)) (now (part .exit)) ⌝ }
 {
     let difference = rows::sub_rows(p, n, rows::constant_row(n, v), a);
     sign(p, l, n, t, k, difference, s, mask, i, part)
@@ -119,8 +116,8 @@ pub fn blocks(
     i: usize,
     part: &mut [u32],
 ) -> Row
-    requires { ⌜ Fields.Modulus p × (n ≤ 7) × (t ≤ 3) × (1 ≤ m) × (m < k) × (k ≤ 30) × (2 ^ k < p) × (m ≤ l) × (l ≤ 31) × (mask + l * (4 * n) ≤ length (now s)) × (i + (l + 2 * m - 2) * (12 * n) ≤ length (now s)) × (n + (l + 2 * m - 2) * (n + n) ≤ length (now part)) ⌝ }
-    ensures { λ r. ⌜ ((count : ℕ) (d : Steps.Deal) → Steps.nextMask (setting p l n t) d ≡ Sheet.rowsAt (now (s .entry)) n mask l → d .triples ≡ Sheet.triplesFrom (now (s .entry)) n i count → l + 2 * m ≤ count + 2 → (r .shares ≡ Steps.blocks (setting p l n t) k m (a .shares) d .left) × (now (part .exit) ≡ Lists.over (written n (Steps.blocks (setting p l n t) k m (a .shares) d .opened)) (now (part .entry)))) ⌝ }
+    requires { ⌜ MaskedRoom p l n t k m mask i (now s) (now part) ⌝ }
+    ensures { λ r. ⌜ MaskedLeaves p l n t m mask i (now (s .entry)) (Steps.blocks (setting p l n t) k m (a .shares)) (r .shares) (now (part .entry)) (now (part .exit)) ⌝ }
 {
     floor(p, l, n, t, k, m, a, s, mask, i, part)
 }

@@ -10,6 +10,7 @@ ghost use Rattle.model.specs.Sheet as Sheet;
 ghost use Rattle.model.specs.Steps as Steps;
 ghost use Rattle.model.specs.Run.{written};
 ghost use Rattle.steps.specs.Settings.{setting};
+ghost use Rattle.steps.specs.Masked.{MaskedRoom, MaskedLeaves};
 ghost use Rattle.steps.specs.Threes.{three, threeWritten};
 use crate::columns;
 use crate::compared;
@@ -149,8 +150,8 @@ pub fn remainder(
     i: usize,
     part: &mut [u32],
 ) -> Row
-    requires { ⌜ Fields.Modulus p × (n ≤ 7) × (t ≤ 3) × (1 ≤ m) × (m < k) × (k ≤ 30) × (2 ^ k < p) × (m ≤ l) × (l ≤ 31) × (mask + l * (4 * n) ≤ length (now s)) × (i + (l + 2 * m - 2) * (12 * n) ≤ length (now s)) × (n + (l + 2 * m - 2) * (n + n) ≤ length (now part)) ⌝ }
-    ensures { λ r. ⌜ ((count : ℕ) (d : Steps.Deal) → Steps.nextMask (setting p l n t) d ≡ Sheet.rowsAt (now (s .entry)) n mask l → d .triples ≡ Sheet.triplesFrom (now (s .entry)) n i count → l + 2 * m ≤ count + 2 → (r .shares ≡ Steps.remainder (setting p l n t) k m (a .shares) d .left) × (now (part .exit) ≡ Lists.over (written n (Steps.remainder (setting p l n t) k m (a .shares) d .opened)) (now (part .entry)))) ⌝ }
+    requires { ⌜ MaskedRoom p l n t k m mask i (now s) (now part) ⌝ }
+    ensures { λ r. ⌜ MaskedLeaves p l n t m mask i (now (s .entry)) (Steps.remainder (setting p l n t) k m (a .shares)) (r .shares) (now (part .entry)) (now (part .exit)) ⌝ }
 {
     let masked = masked_row(p, l, n, k, a, s, mask);
     let c = product::open_row(p, n, t, masked, part);

@@ -60,21 +60,24 @@ slice-aggregate-blocks-row : tie.Need-slice-aggregate-blocks-row
 slice-aggregate-blocks-row c = search needs
 
 blocks-row-requires : tie.Need-blocks-row-requires
-blocks-row-requires c κs = (
-  c .before .before .before .before .before .before .before .before .before .before .before .pre .0,
-  c .before .before .before .before .before .before .before .before .before .before .before .pre .1,
-  c .before .before .before .before .before .before .before .before .before .before .before .pre .3,
-  c .before .before .before .before .before .before .before .before .before .before .before .pre .4,
-  omega (arith, c .before .before .before .before .before .before .before .if1),
-  omega (arith, c .before .before .before .before .before .if3),
-  c .before .before .before .before .before .before .before .before .before .before .before .pre .5,
-  c .before .before .before .before .before .before .before .before .before .before .before .pre .6,
-  omega (arith, c .before .before .before .before .before .before .if2),
-  c .before .before .before .before .before .before .before .before .before .before .before .pre .2,
-  c .before .before .before .before .before .before .before .before .before .before .before .pre .7,
-  omega (arith, c .before .before .before .before .times .ensures, c .before .before .before .if4, c .before .before .before .before .before .before .before .before .before .before .before .pre .8),
-  omega (arith, c .before .before .times2 .ensures, c .before .if5),
-)
+blocks-row-requires c κs =
+    let h = c .before .before .before .before .before .before .before .before .before .before .before .pre in (
+      h .1,
+      (
+        h .0,
+        h .3,
+        h .4,
+        omega (arith, c .before .before .before .before .before .before .before .if1),
+        omega (arith, c .before .before .before .before .before .if3),
+        h .5,
+        h .6,
+        omega (arith, c .before .before .before .before .before .before .if2),
+        h .2,
+        h .7,
+        omega (arith, c .before .before .before .before .times .ensures, c .before .before .before .if4, h .8),
+        omega (arith, c .before .before .times2 .ensures, c .before .if5),
+      ),
+    )
 
 slice-aggregate-answer : tie.Need-slice-aggregate-answer
 slice-aggregate-answer c = search needs

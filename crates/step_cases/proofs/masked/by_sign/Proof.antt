@@ -51,20 +51,24 @@ slice-aggregate-sign-row : tie.Need-slice-aggregate-sign-row
 slice-aggregate-sign-row c = search needs
 
 sign-row-requires : tie.Need-sign-row-requires
-sign-row-requires c κs = (
-  c .before .before .before .before .before .before .before .before .pre .0,
-  c .before .before .before .before .before .before .before .before .pre .1,
-  c .before .before .before .before .before .before .before .before .pre .3,
-  c .before .before .before .before .before .before .before .before .pre .4,
-  omega (arith, c .before .before .before .before .before .before .if1),
-  c .before .before .before .before .before .before .before .before .pre .5,
-  c .before .before .before .before .before .before .before .before .pre .6,
-  omega (arith, c .before .before .before .before .before .if2),
-  c .before .before .before .before .before .before .before .before .pre .2,
-  c .before .before .before .before .before .before .before .before .pre .7,
-  omega (arith, c .before .before .before .before .times .ensures, c .before .before .before .if3, c .before .before .before .before .before .before .before .before .pre .8),
-  omega (arith, c .before .before .times2 .ensures, c .before .if4),
-)
+sign-row-requires c κs =
+    let h = c .before .before .before .before .before .before .before .before .pre in (
+      h .1,
+      (
+        h .0,
+        h .3,
+        h .4,
+        omega (arith, c .before .before .before .before .before .before .if1),
+        omega (arith, c .before .before .before .before .before .before .if1),
+        h .5,
+        h .6,
+        omega (arith, c .before .before .before .before .before .if2),
+        h .2,
+        h .7,
+        omega (arith, c .before .before .before .before .times .ensures, c .before .before .before .if3, h .8),
+        omega (arith, c .before .before .times2 .ensures, c .before .if4),
+      ),
+    )
 
 slice-aggregate-answer : tie.Need-slice-aggregate-answer
 slice-aggregate-answer c = search needs

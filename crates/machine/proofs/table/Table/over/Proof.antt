@@ -17,8 +17,8 @@ use Rattle.sheet.specs.declared.frame.Frame.{Frame}
 use Rattle.script.proofs.InRange.{ranges}
 use Rattle.machine.specs.Holding.{Ready}
 use Rattle.machine.specs.declared.table.Table.{Table}
-use Rattle.machine.proofs.Places.{n-most, t-most, l-most, field-of}
-use Rattle.machine.proofs.Readiness.{Masked, sign-ready, next-fits, mask-room, triple-room, part-room, masked-performs}
+use Rattle.machine.proofs.Places.{n-most}
+use Rattle.machine.proofs.Readiness.{Masked, sign-ready, next-fits, masked-room, masked-performs}
 use Rattle.machine.proofs.table.Table.over.Statement.{statement}
 use Rattle.machine.proofs.table.Table.over.Tie as tie
 
@@ -48,10 +48,7 @@ part-over-end c = search needs
 over-requires : tie.Need-over-requires
 over-requires c κs =
     let R = c .before .before .before .before .before .pre in
-    let F = R .framed in
-    let M = found R in
-    let N = c .before .before .next .ensures in
-    (field-of F .modulus-is, n-most F, t-most F, omega (arith, M .m-least), M .k-most, M .power, M .m-within, l-most F, mask-room M N, triple-room M N, part-room M N (now (c .before .before .before .before .before .args .log)) refl)
+    masked-room (found R) (c .before .before .next .ensures) (R .framed) (now (c .before .before .before .before .before .args .log)) refl
 
 put-requires : tie.Need-put-requires
 put-requires c κs = found (c .before .before .before .before .before .before .before .before .pre) .d-in
