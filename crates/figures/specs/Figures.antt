@@ -34,12 +34,15 @@ dealt S count bs =
 abbrev pub five : List ℕ
 five = 1 ∷ 0 ∷ 1 ∷ 0 ∷ []
 
+-- the bits of 12, for "r = 12"
 abbrev pub twelve : List ℕ
 twelve = 0 ∷ 0 ∷ 1 ∷ 1 ∷ []
 
+-- 5 in the 16 bits of field 2
 abbrev pub long : List ℕ
 long = 1 ∷ 0 ∷ 1 ∷ replicate 13 0
 
+-- the deals with each of these masks, and the most triples that a P row takes
 abbrev pub with5 : Deal
 with5 = dealt small 6 five
 
@@ -53,13 +56,16 @@ wide = dealt large 42 long
 abbrev pub result : Setting → Step → ℕ
 result S s = value S (s .left)
 
+-- a P row: what the definitions give, and what the paper prints
 pub record Figure : Type 0 where
   pub computed : List ℕ
   pub printed : List ℕ
 
+-- such a row
 abbrev pub figure : List ℕ → List ℕ → Figure
 figure xs ys = record { computed = xs; printed = ys }
 
+-- "Field 0, k = 3; those marked P are proved." Each row's case and result stand over it.
 unfoldable pub figures : List Figure
 figures =
     -- MOD m=1, −3, r = 12: C 0, f 1, u 0, result 1
@@ -99,5 +105,6 @@ figures =
     (42 ∷ 85 ∷ 85 ∷ 0 ∷ 0 ∷ [])
     ∷ []
 
+-- "The P rows, gathered in one table and one claim."
 abbrev pub Figures : Type 0
 Figures = map (λ f. f .computed) figures ≡ map (λ f. f .printed) figures

@@ -6,7 +6,7 @@ use Prim.Native.Nat.{ℕ, _≤_}
 use lib.ListN.{length}
 use Rattle.model.specs.Run.{run}
 
--- "A record of 10,850 numbers (7 shares of at most 1,024 + 16 + 510 openings) and a revealed list of 511, which no run outgrows, so 25 and
+-- "a record of 10,850 numbers (7 shares of at most 1,024 + 16 + 510 openings) and a revealed list of 511, which no run outgrows, so 25 and
 -- 26 come only from the library." This holds for longer buffers too.
 abbrev pub NoRunOutgrows : Type 0
 NoRunOutgrows =

@@ -19,10 +19,12 @@ use Rattle.machine.specs.declared.table.Counts.{Counts}
 use Rattle.machine.specs.declared.table.Table.{Table}
 use Rattle.machine.specs.Tables.{countsOf, paid}
 
+-- the code's counts and marks as the paper's state has them
 abbrev pub spentBy : Counts → List Bool → Spent
 spentBy n marks =
     record { inputs = n .inputs; masks = n .masks; triples = n .triples; openings = n .openings; revealed = n .revealed; marks = marks }
 
+-- the same of a table
 abbrev pub spentOf : Table → Spent
 spentOf t = spentBy (t .spent) (t .marks)
 

@@ -9,6 +9,7 @@ use Rattle.model.specs.Costs as Costs
 use Rattle.machine.specs.declared.table.Counts.{Counts}
 use Rattle.machine.specs.declared.table.Table.{Table}
 
+-- "all registers are unset, all counts 0"
 unfoldable pub emptyTable : Table
 emptyTable =
     record {
@@ -30,6 +31,7 @@ putTable t d x =
 abbrev pub countsOf : Costs.Cost → Counts
 countsOf c = record { inputs = c .inputs; masks = c .masks; triples = c .triples; openings = c .openings; revealed = c .revealed }
 
+-- inputs, masks, triples, openings and revealed values, as counts
 abbrev pub counted : ℕ → ℕ → ℕ → ℕ → ℕ → Counts
 counted i m t o r = record { inputs = i; masks = m; triples = t; openings = o; revealed = r }
 

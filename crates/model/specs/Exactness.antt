@@ -1,4 +1,8 @@
--- Demand 2: exactness and counts, about the states that runs of whole scripts on accepted sheets pass through.
+-- Demand 2, about the states that runs of whole scripts on accepted sheets pass through: "After each command the shared secret equals the exact
+-- floor, remainder or comparison, as Catrina and de Hoogh define them, wherever the number lies in its k-bit signed range, and the paper's
+-- formula elsewhere. Each opened share is the one that the paper's steps give. Deal spent and openings made equal the paper's counts." What the
+-- formulas are in the range is in Plain.antt, `Exact`; the opened shares are those of Steps.antt, by `finish` in Run.antt. The demand's other
+-- sentence, "Sharing and reconstruction are Shamir's, each undoing the other.", is in Shamir.antt.
 -- Assumes nothing.
 use mathlib.Core.Path.{_≡_}
 use mathlib.Core.Bool.{true, false}
@@ -28,7 +32,8 @@ pub data Passes (S : Setting) (u : Supply) (input : List Row) (d : Deal) (xs : L
       → check u (cost (S .l) (x .command)) (s .spent) ≡ 0
       → Passes S u input d xs ys (finish S input (x .command) s) (plainly (S .p) (secrets S input) (s .spent .inputs) (x .command) vs)
 
--- Every set register is a sharing, and its secret is the plain interpreter's value; the cells of an unset register are 0.
+-- "After each command the shared secret equals": every set register is a sharing, and its secret is the plain interpreter's value. "the cells
+-- of an unset register are 0"
 pub record Right (S : Setting) (s : State) (vs : List ℕ) : Type 0 where
   pub sharing : (r : ℕ) → getD (s .spent .marks) r false ≡ true → Sharing (S .p) (S .n) (S .t) (getD (s .registers) r noRow)
   pub secret-is : (r : ℕ) → getD (s .spent .marks) r false ≡ true → secret (S .p) (S .t) (getD (s .registers) r noRow) ≡ getD vs r 0
@@ -39,8 +44,8 @@ unfoldable pub sumOf : ℕ → (Cost → ℕ) → List Line → ℕ
 sumOf l f [] = 0
 sumOf l f (x ∷ xs) = f (cost l (x .command)) + sumOf l f xs
 
--- The commands finished so far, and that the counts are the sums of what they spend; that so much is gone from the front of the deal, so
--- that no item is used twice; and that the record has n numbers for each opening.
+-- "Deal spent and openings made equal the paper's counts": the commands finished so far, and that the counts are the sums of what they spend.
+-- "A deal item is never used again": so much is gone from the front of the deal. And the record has n numbers for each opening.
 pub record Counted (S : Setting) (d : Deal) (xs ys : List Line) (s : State) : Type 0 where
   pub done : List Line
   pub split : xs ≡ done ++ ys
@@ -55,12 +60,13 @@ pub record Counted (S : Setting) (d : Deal) (xs ys : List Line) (s : State) : Ty
   pub numbers : length (written (S .n) (s .opened)) ≡ S .n * s .spent .openings
   pub shown : length (s .shown) ≡ s .spent .revealed
 
--- How a run stops: after its last line at END, or at a line whose command the checks refuse.
+-- How a run stops: at a line whose command the checks refuse, "and its offset is the place. Otherwise the answer is 0 at END's offset."
 pub data Stops (S : Setting) (u : Supply) (end : ℕ) (x : Stop) : List Line → Type 0 where
   at-end : x .number ≡ 0 → x .place ≡ end → Stops S u end x []
   at-line : {y : Line} {ys : List Line} → x .number ≡ check u (cost (S .l) (y .command)) (x .state .spent) → (x .number ≡ 0 → ⊥)
       → x .place ≡ y .place → Stops S u end x (y ∷ ys)
 
+-- "a refused one ends the run": the stop's state is one that the run passes through, and the lines left there say how it stops
 pub record Stopped (S : Setting) (u : Supply) (input : List Row) (d : Deal) (xs : List Line) (end : ℕ) (x : Stop) : Type 0 where
   pub left : List Line
   pub values : List ℕ

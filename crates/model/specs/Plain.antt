@@ -1,4 +1,5 @@
--- The plain interpreter: what each command does to secrets, as the paper's formulas say; and what these are in ℤ.
+-- The paper, the table of commands and "Steps": the plain interpreter, what each command does to secrets by the paper's formulas; and what
+-- these are in ℤ.
 -- Assumes nothing.
 use mathlib.Core.Path.{_≡_}
 use mathlib.Core.Bool.{Bool, true, false, cond}
@@ -16,33 +17,39 @@ use Rattle.model.specs.Steps.{odd}
 use Rattle.model.specs.Script.{Command, END, LOAD, CONST, ADD, SUB, SCALE, MUL, MOD, TRUNC, LTZ, OVER, BLOCKS, REVEAL, BITLT}
 use Rattle.model.specs.Sheet.{spell}
 
--- BITLT's rule on the values of registers
+-- BITLT on the values of registers. "If registers are not bits, this rule still says what comes out."
+-- "lt becomes bit i + lt − q where v's bit i is 0, else q"
 abbrev pub lessStep : ℕ → Bool → ℕ → ℕ → ℕ
 lessStep p true b lt = mul p b lt
 lessStep p false b lt = sub p (add p b lt) (mul p b lt)
 
+-- "For i from 1 to w − 1, q = bit i times lt by MUL in that order": the bits from i on, v being shifted right by i
 unfoldable pub lessFrom : ℕ → ℕ → List ℕ → ℕ → ℕ
 lessFrom p v [] lt = lt
 lessFrom p v (b ∷ bs) lt = lessFrom p (v / 2) bs (lessStep p (odd v) b lt)
 
+-- "BITLT: lt is bit 0 if v's bit 0 is 0, else the zero sharing."
 unfoldable pub less : ℕ → ℕ → List ℕ → ℕ
 less p v [] = 0
 less p v (b ∷ bs) = lessFrom p (v / 2) bs (cond (odd v) 0 b)
 
--- MOD: "With X = (a + 2^(k−1)) modulo p … Its secret is X mod 2^m for every a and r."
+-- MOD: "With X = (a + 2^(k−1)) modulo p", "Its secret is X mod 2^m for every a and r."
 unfoldable pub rem : ℕ → ℕ → ℕ → ℕ → ℕ
 rem p k m a = add p a (2 ^ (k - 1)) % 2 ^ m
 
--- TRUNC, LTZ, OVER and BLOCKS
+-- "TRUNC is (a − MOD) times the inverse of 2^m."
 unfoldable pub quot : ℕ → ℕ → ℕ → ℕ → ℕ
 quot p k m a = mul p (inversePowerOf2 p m) (sub p a (rem p k m a))
 
+-- "LTZ is minus TRUNC with m = k − 1."
 unfoldable pub negative : ℕ → ℕ → ℕ → ℕ
 negative p k a = sub p 0 (quot p k (k - 1) a)
 
+-- OVER: "LTZ of (v − a)"
 unfoldable pub exceeds : ℕ → ℕ → ℕ → ℕ → ℕ
 exceeds p k v a = negative p k (sub p v a)
 
+-- "BLOCKS is the tariff's own rule: finished blocks of 2^m seconds, today equal to TRUNC."
 unfoldable pub charged : ℕ → ℕ → ℕ → ℕ → ℕ
 charged p k m a = quot p k m a
 
@@ -51,7 +58,9 @@ unfoldable pub valuesFrom : List ℕ → ℕ → ℕ → List ℕ
 valuesFrom vs b zero = []
 valuesFrom vs b (suc w) = getD vs b 0 ∷ valuesFrom vs (suc b) w
 
--- a command on the values of the registers, where j inputs were loaded before it
+-- The column "secret left in d" of the table of commands, on the values of the registers: of LOAD "next input row", where j were loaded before;
+-- of CONST "v"; of ADD "a + b"; of SUB "a − b"; of SCALE "a times v"; of MUL "a times b"; of the others the formulas above. END and REVEAL leave
+-- none.
 unfoldable pub plainly : ℕ → List ℕ → ℕ → Command → List ℕ → List ℕ
 plainly p input j END vs = vs
 plainly p input j (LOAD d) vs = set vs d (getD input j 0)
@@ -77,7 +86,8 @@ pub record Division (z : ℤ) (M : ℕ) (q : ℤ) (r : ℕ) : Type 0 where
 abbrev pub one : Bool → ℕ
 one b = cond b 1 0
 
--- What the formulas are, in a field p with largest k K, for a field value x that reads back in its k-bit range.
+-- What the formulas are, in a field p with largest k K, for a field value x that reads back in its k-bit range: "For a in the k-bit range these
+-- are exact remainder, floor and sign; outside they are these formulas."
 pub record Exact (p K : ℕ) : Type 0 where
   -- MOD is the remainder, TRUNC the floor
   pub division : (k m x : ℕ) → 2 ≤ k → k ≤ K → 1 ≤ m → m < k → x < p → T (inRange k (readBack p x))

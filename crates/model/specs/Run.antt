@@ -13,7 +13,7 @@ use Rattle.model.specs.Script.{Command, END, LOAD, CONST, ADD, SUB, SCAL
 use Rattle.model.specs.Costs.{Cost, cost}
 use Rattle.model.specs.Sheet.{Header, headerOf, settingOf, scriptIn, inputIn, dealIn, sheetNumber}
 
--- "A table of 64 registers": rows, of which those of unset registers are 0
+-- "A table of 64 registers by n columns", each a row; "the cells of an unset register are 0": this row
 abbrev pub noRow : Row
 noRow = 0 ∷ 0 ∷ 0 ∷ 0 ∷ 0 ∷ 0 ∷ 0 ∷ []
 
@@ -43,22 +43,30 @@ pub record Supply : Type 0 where
   pub log : ℕ
   pub shown : ℕ
 
+-- all the registers of a list are set; "21: a register read is unset" refuses where this fails
 unfoldable pub allSet : List Bool → List ℕ → Bool
 allSet marks [] = true
 allSet marks (r ∷ rs) = getD marks r false && allSet marks rs
 
+-- "the registers and which are set": the marks after the registers of a list were written
 unfoldable pub marked : List Bool → List ℕ → List Bool
 marked marks [] = marks
 marked marks (d ∷ ds) = marked (set marks d true) ds
 
--- "Tried before a command changes anything, in this order": 21 to 26, or 0
+-- "Tried before a command changes anything, in this order": 21 to 26, or 0. A test is of what must hold, and its number is the refusal's.
 unfoldable pub check : Supply → Cost → Spent → ℕ
 check u c s =
+    -- "21: a register read is unset"
     tried (allSet (s .marks) (c .reads)) 21
+    -- "22: no input row left"
     (tried (leb (s .inputs + c .inputs) (u .inputs)) 22
+    -- "23: no mask left"
     (tried (leb (s .masks + c .masks) (u .masks)) 23
+    -- "24: fewer triples left than the command takes"
     (tried (leb (s .triples + c .triples) (u .triples)) 24
+    -- "25: the record buffer cannot take all its shares"
     (tried (leb ((s .openings + c .openings) * u .parties) (u .log)) 25
+    -- "26: the revealed buffer is full"
     (tried (leb (s .revealed + c .revealed) (u .shown)) 26 0)))))
 
 -- "Inputs counts the finished LOADs; masks, triples and openings are the sums of what is spent over the finished commands."
@@ -120,17 +128,19 @@ finish S input c s =
     let r = perform S input c s in
     record { spent = pay (cost (S .l) c) (s .spent); registers = r .registers; deal = r .deal; opened = r .opened; shown = r .shown }
 
--- "Each command gets exactly what the one before it left; a refused one ends the run." Number, place and the state that is left. The place,
--- the paper's term, is an offset in the script: of END, of the refused command, or 0.
+-- How a run stops: number, place and the state that is left. The place, the paper's term, is an offset in the script, or 0.
 pub record Stop : Type 0 where
   pub number : ℕ
   pub place : ℕ
   pub state : State
 
+-- "a refused one ends the run": with a number other than 0 it stops at this place in the state s; with 0 it goes on
 abbrev pub orElse : ℕ → ℕ → State → Stop → Stop
 orElse zero place s go = go
 orElse (suc number) place s go = record { number = suc number; place = place; state = s }
 
+-- "Each command gets exactly what the one before it left; a refused one ends the run." "Earlier commands stand. The refused command changes no
+-- cell, count or buffer, and its offset is the place. Otherwise the answer is 0 at END's offset."
 unfoldable pub runLines : Setting → Supply → List Row → ℕ → List Line → State → Stop
 runLines S u input end [] s = record { number = 0; place = end; state = s }
 runLines S u input end (x ∷ xs) s =
@@ -157,7 +167,7 @@ pub record Outcome : Type 0 where
   pub log : List ℕ
   pub revealed : List ℕ
 
--- the record's numbers: n for each opening, in order
+-- "Opening: the n shares go to the record, party 1 first": the record's numbers, opening by opening
 unfoldable pub written : ℕ → List Row → List ℕ
 written n [] = []
 written n (x ∷ xs) = take n x ++ written n xs
@@ -183,20 +193,26 @@ outcome n log revealed x =
 abbrev pub refusedInput : ℕ → ℕ → Stop
 refusedInput number place = record { number = number; place = place; state = start (record { masks = []; triples = [] }) }
 
+-- The header's counts and n. "The record and the revealed list are lent slices of 32-bit numbers": their lengths are log and shown.
 abbrev pub supplyOf : Header → ℕ → ℕ → Supply
 supplyOf h log shown = record { inputs = h .inputs; masks = h .masks; triples = h .triples; parties = h .n; log = log; shown = shown }
 
--- the stop of a script that was read
+-- the stop of a script that was read: refused, or run from the start on the sheet's input and deal
 unfoldable pub runScript : Header → List ℕ → ℕ → ℕ → Script → Stop
 runScript h s log shown (refused number place) = refusedInput number place
 runScript h s log shown (accepted xs end) = runLines (settingOf h) (supplyOf h log shown) (inputIn h s) end xs (start (dealIn h s))
 
+-- "9 to 11 are tried command by command from the script's start": the sheet's script, read with p and the largest k of its field
 abbrev pub sheetScript : List ℕ → Script
 sheetScript s = let h = headerOf s in scriptOf (settingOf h .p) (largestK (h .field)) (scriptIn h s)
 
+-- 1 to 8 are tried before 9 to 11, and the script is run where none refuses. "The place is 0 for 1 to 8; for 9 to 11 the command's offset in the
+-- script, the script length if END is missing, or the offset just after END."
 unfoldable pub stopOf : List ℕ → ℕ → ℕ → Stop
 stopOf s log shown = orElse (sheetNumber s) 0 (start (record { masks = []; triples = [] })) (runScript (headerOf s) s log shown (sheetScript s))
 
--- The run of a sheet with two lent buffers, to their last number.
+-- The run of a sheet with two lent buffers: "For each input, the one permitted answer, each cell, and both buffers to their last number, also
+-- when refused." Demand 1: "A bad sheet or a spent deal gets its number from document 01, called the paper here, and nothing past the last
+-- finished command is touched."
 unfoldable pub run : List ℕ → List ℕ → List ℕ → Outcome
 run s log revealed = outcome (headerOf s .n) log revealed (stopOf s (length log) (length revealed))

@@ -7,6 +7,8 @@ use lib.Dec.{ltb, leb, eqb}
 use lib.ListN.{length, getD}
 use Rattle.model.specs.Bytes.{number}
 
+-- The commands of the table, 00 to 0D, each with its operands in order: "END", "LOAD d", "CONST d v", "ADD d a b", "SUB d a b", "SCALE d a v",
+-- "MUL d a b", "MOD d a k m", "TRUNC d a k m", "LTZ d a k", "OVER d a k v", "BLOCKS d a k m", "REVEAL a", "BITLT d b w v"
 pub data Command : Type 0 where
   END : Command
   LOAD : ℕ → Command
@@ -19,7 +21,7 @@ pub data Command : Type 0 where
   BITLT : ℕ → ℕ → ℕ → ℕ → Command
 
 -- "d, a, b are one-byte registers 0 to 63; k, m, w one byte; v four bytes": by the byte at place i of a script, the command whose operands
--- follow it, and how many bytes it takes
+-- follow it
 unfoldable pub commandAt : List ℕ → ℕ → Command
 commandAt s i =
     let o : ℕ → ℕ = λ j. getD s (i + j) 0 in
@@ -30,23 +32,28 @@ commandAt s i =
     ∷ BLOCKS (o 1) (o 2) (o 3) (o 4) ∷ REVEAL (o 1) ∷ BITLT (o 1) (o 2) (o 3) (v 4) ∷ [])
     (getD s i 0) END
 
+-- how many bytes each command takes, from 00 to 0D: its own, one for each of d, a, b, k, m and w, and four for v
 abbrev pub sizes : List ℕ
 sizes = 1 ∷ 2 ∷ 6 ∷ 4 ∷ 4 ∷ 7 ∷ 4 ∷ 5 ∷ 5 ∷ 4 ∷ 8 ∷ 5 ∷ 2 ∷ 8 ∷ []
 
+-- the same of the command at place i
 unfoldable pub sizeAt : List ℕ → ℕ → ℕ
 sizeAt s i = getD sizes (getD s i 0) 1
 
--- "Ranges: k from 2 to the field's largest; m from 1 to k − 1; v below p, except in BITLT, where w is 1 to 31, b + w at most 64 and v
--- below 2^w". K is the field's largest k.
+-- "d, a, b are one-byte registers 0 to 63"
 abbrev pub register : ℕ → Bool
 register r = ltb r 64
 
+-- "k from 2 to the field's largest", which is K
 abbrev pub kIn : ℕ → ℕ → Bool
 kIn K k = leb 2 k && leb k K
 
+-- "m from 1 to k − 1"
 abbrev pub mIn : ℕ → ℕ → Bool
 mIn k m = leb 1 m && ltb m k
 
+-- "Ranges: k from 2 to the field's largest; m from 1 to k − 1; v below p, except in BITLT, where w is 1 to 31, b + w at most 64 and v
+-- below 2^w (bit i in register b + i)."
 unfoldable pub inRanges : ℕ → ℕ → Command → Bool
 inRanges p K END = true
 inRanges p K (LOAD d) = register d
@@ -63,13 +70,16 @@ inRanges p K (BLOCKS d a k m) = register d && register a && kIn K k && mIn k m
 inRanges p K (REVEAL a) = register a
 inRanges p K (BITLT d b w v) = register d && register b && leb 1 w && leb w 31 && leb (b + w) 64 && ltb v (2 ^ w)
 
--- What stands at place i: 0, or "9: a command byte over 0D; 10: operands cut off, no END; 11: an operand out of range". A script that ends
--- between two commands has no END.
+-- What stands at place i: 0, or the number of a refusal there. The third case of 10, bytes after END, is tried in scriptStep.
 unfoldable pub numberAt : ℕ → ℕ → List ℕ → ℕ → ℕ
 numberAt p K s i =
+    -- "10: operands cut off, no END, or bytes after END (an empty script too)": the script ends here, and has no END
     cond (leb (length s) i) 10
+    -- "9: a command byte over 0D"
     (cond (ltb 13 (getD s i 0)) 9
+    -- operands cut off
     (cond (ltb (length s) (i + sizeAt s i)) 10
+    -- "11: an operand out of range"
     (cond (inRanges p K (commandAt s i)) 0 11)))
 
 -- a command of a script, and its offset
@@ -77,16 +87,19 @@ pub record Line : Type 0 where
   pub place : ℕ
   pub command : Command
 
--- A script, command by command from its start: its lines without END and END's offset, or the first refusal and its place.
+-- "9 to 11 are tried command by command from the script's start": the script's lines without END and END's offset, or the first refusal's
+-- number and place
 pub data Script : Type 0 where
   accepted : List Line → ℕ → Script
   refused : ℕ → ℕ → Script
 
+-- a line, and the script after it
 abbrev pub withLine : Line → Script → Script
 withLine x (accepted xs end) = accepted (x ∷ xs) end
 withLine x (refused number place) = refused number place
 
--- "the command's offset in the script, the script length if END is missing, or the offset just after END"
+-- "for 9 to 11 the command's offset in the script, the script length if END is missing, or the offset just after END": by the number at
+-- place i a refusal, END, or a command and the rest
 abbrev pub scriptStep : ℕ → List ℕ → ℕ → Script → Script
 scriptStep zero s i rest =
     cond (eqb (getD s i 0) 0) (cond (eqb (i + 1) (length s)) (accepted [] i) (refused 10 (i + 1)))
@@ -98,5 +111,6 @@ unfoldable pub scriptFrom : ℕ → ℕ → ℕ → List ℕ → ℕ → Script
 scriptFrom zero p K s i = refused 10 i
 scriptFrom (suc most) p K s i = scriptStep (numberAt p K s i) s i (scriptFrom most p K s (i + sizeAt s i))
 
+-- from the script's start
 unfoldable pub scriptOf : ℕ → ℕ → List ℕ → Script
 scriptOf p K s = scriptFrom (suc (length s)) p K s 0

@@ -1,4 +1,9 @@
--- Demand 3: no set of t parties can tell two inputs apart. One claim about the runs of whole scripts on sheets.
+-- Demand 3, as one claim about the runs of whole scripts on sheets: "There is no set of t parties that can tell two inputs apart. For any set of
+-- t parties, take any two accepted sheets with the same header, script and output lengths, whose input shares agree in that set's columns and
+-- whose revealed values agree, whatever the script does and wherever its run stops, a refused command included. Then there is a one-to-one map
+-- of all well-formed deals onto themselves that keeps that set's dealt shares and does this: for every well-formed deal, the first sheet's input
+-- run on it and the second sheet's input run on its image write the same record and the same revealed list, stop with the same number at the
+-- same place, with the same counts and the same registers set, and leave that set the same columns."
 -- Assumes nothing.
 use mathlib.Core.Path.{_≡_}
 use mathlib.Core.List.{List, [], _∷_}
@@ -55,12 +60,14 @@ pub record Veil (set s s′ : List ℕ) (log shown : ℕ) : Type 0 where
   pub from-formed : (d : Deal) → WellFormed (headerOf s) d → WellFormed (headerOf s) (from d)
   pub from-to : (d : Deal) → WellFormed (headerOf s) d → from (to d) ≡ d
   pub to-from : (d : Deal) → WellFormed (headerOf s) d → to (from d) ≡ d
+  -- "A set's dealt shares are its parties' shares in the deal."
   pub keeps : (d : Deal) → WellFormed (headerOf s) d → Alike set (dealRows d) (dealRows (to d))
   -- "for every well-formed deal, the first sheet's input run on it and the second sheet's input run on its image", whatever the buffers held
   pub same : (d : Deal) → WellFormed (headerOf s) d → (a b : List ℕ) → length a ≡ log → length b ≡ shown
       → SameTo set (runOn s d a b) (runOn s′ (to d) a b)
 
--- "For any set of t parties, take any two accepted sheets with the same header, script … whose input shares agree in that set's columns"
+-- "For any set of t parties, take any two accepted sheets with the same header, script and output lengths, whose input shares agree in that set's
+-- columns": the output lengths are log and shown in `Secrecy`
 pub record Twins (set s s′ : List ℕ) : Type 0 where
   pub first : Accepted s
   pub second : Accepted s′
@@ -74,7 +81,7 @@ abbrev pub revealedBy : List ℕ → ℕ → ℕ → List ℕ
 revealedBy s log shown = stopOf s log shown .state .shown
 
 -- "and whose revealed values agree, whatever the script does and wherever its run stops, a refused command included. Then there is a
--- one-to-one map": fixed by the set, the two sheets and the output lengths
+-- one-to-one map". "The map is fixed by the set, the two sheets and the output lengths, before any deal is named."
 abbrev pub Secrecy : Type 0
 Secrecy =
     (set s s′ : List ℕ) (log shown : ℕ) → Twins set s s′ → revealedBy s log shown ≡ revealedBy s′ log shown → Veil set s s′ log shown

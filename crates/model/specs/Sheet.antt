@@ -25,6 +25,7 @@ pub record Header : Type 0 where
   pub triples : ℕ
   pub script : ℕ
 
+-- the header that a sheet's first 11 bytes say
 unfoldable pub headerOf : List ℕ → Header
 headerOf s =
     record {
@@ -37,9 +38,11 @@ headerOf s =
       script = number 2 s 9;
     }
 
+-- "Four fields are held in one constant table": p and bits ℓ of the header's field, with its n and t
 abbrev pub settingOf : Header → Setting
 settingOf h = record { p = modulus (h .field); l = bits (h .field); n = h .n; t = h .t }
 
+-- "input rows (at most 64), masks (at most 16), triples (at most 512), script length (at most 1,024)"
 unfoldable pub limits : Header → Bool
 limits h = leb (h .inputs) 64 && leb (h .masks) 16 && leb (h .triples) 512 && leb (h .script) 1024
 
@@ -57,6 +60,7 @@ triplesAt h = masksAt h + 4 * h .n * bits (h .field) * h .masks
 unfoldable pub impliedLength : Header → ℕ
 impliedLength h = triplesAt h + 4 * h .n * 3 * h .triples
 
+-- "Then the script": the bytes after the header, as many as it says
 unfoldable pub scriptIn : Header → List ℕ → List ℕ
 scriptIn h s = take (h .script) (drop 11 s)
 
@@ -109,6 +113,7 @@ unfoldable pub spell : List ℕ → ℕ
 spell [] = 0
 spell (b ∷ bs) = b + 2 * spell bs
 
+-- "its secret is the value at 0": the secret of each row
 unfoldable pub secrets : Setting → List Row → List ℕ
 secrets S [] = []
 secrets S (x ∷ xs) = secret (S .p) (S .t) x ∷ secrets S xs
@@ -121,33 +126,44 @@ unfoldable pub goodTriple : Setting → Triple → Bool
 goodTriple S x =
     eqb (secret (S .p) (S .t) (x .c)) (mul (S .p) (secret (S .p) (S .t) (x .a)) (secret (S .p) (S .t) (x .b)))
 
+-- "5: a share not below p" refuses where this fails: each of a row's n shares is below p
 abbrev pub sharesBelow : Setting → Row → Bool
 sharesBelow S x = allBelow (S .p) (take (S .n) x)
 
+-- "6: a row that is no sharing" refuses where this fails
 abbrev pub aSharing : Setting → Row → Bool
 aSharing S x = isSharing (S .p) (S .n) (S .t) x
 
--- "Tried in this order, each over the whole sheet before the next": 1 to 8, or 0
+-- "Tried in this order, each over the whole sheet before the next": 1 to 8, or 0. A test is of what must hold, and its number is the refusal's.
 unfoldable pub sheetNumber : List ℕ → ℕ
 sheetNumber s =
     let h = headerOf s in
     let S = settingOf h in
     let d = dealIn h s in
     let rows = inputIn h s ++ dealRows d in
+    -- "1: fewer than 11 bytes"
     tried (leb 11 (length s)) 1
+    -- "2: field over 3"
     (tried (ltb (h .field) 4) 2
+    -- "3: n or t outside the ranges"
     (tried (parties (h .n) (h .t)) 3
+    -- "4: a count over its limit, or a sheet length other than the header implies"
     (tried (limits h && eqb (length s) (impliedLength h)) 4
+    -- "5: a share not below p"
     (tried (all (sharesBelow S) rows) 5
+    -- "6: a row that is no sharing"
     (tried (all (aSharing S) rows) 6
+    -- "7: a mask not well formed"
     (tried (all (goodMask S) (d .masks)) 7
+    -- "8: a triple not well formed"
     (tried (all (goodTriple S) (d .triples)) 8 0)))))))
 
--- The other way: v in w bytes, a row, and "the sheet made of header, script, input and deal".
+-- The other way, for "the sheet made of header, script, input and deal". "Numbers are little-endian": v in w bytes
 unfoldable pub bytesOf : ℕ → ℕ → List ℕ
 bytesOf zero v = []
 bytesOf (suc w) v = v % 256 ∷ bytesOf w (v / 256)
 
+-- "A row is n shares of 4 bytes, party 1 first": a row's shares, and the n shares of each of some rows, one row after the other
 unfoldable pub shareBytes : List ℕ → List ℕ
 shareBytes [] = []
 shareBytes (x ∷ xs) = bytesOf 4 x ++ shareBytes xs
@@ -156,9 +172,11 @@ unfoldable pub rowBytes : ℕ → List Row → List ℕ
 rowBytes n [] = []
 rowBytes n (x ∷ xs) = shareBytes (take n x) ++ rowBytes n xs
 
+-- "One byte each: field, n, t. Two bytes each: input rows", masks, triples, script length
 unfoldable pub headerBytes : Header → List ℕ
 headerBytes h =
     h .field ∷ h .n ∷ h .t ∷ (bytesOf 2 (h .inputs) ++ (bytesOf 2 (h .masks) ++ (bytesOf 2 (h .triples) ++ bytesOf 2 (h .script))))
 
+-- "Then the script; the input rows; the masks, each ℓ rows, bit 0 first; the triples, each rows a, b, c."
 unfoldable pub sheetOf : Header → List ℕ → List Row → Deal → List ℕ
 sheetOf h script input d = headerBytes h ++ (script ++ (rowBytes (h .n) input ++ rowBytes (h .n) (dealRows d)))

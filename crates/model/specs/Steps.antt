@@ -66,7 +66,8 @@ module _ (S : Setting) where
   unfoldable pub constant : ℕ → Row
   constant v = row (S .n) (λ _. v)
 
-  -- "Opening: the n shares go to the record, party 1 first, and the value at 0 becomes public."
+  -- "Opening: the n shares go to the record, party 1 first, and the value at 0 becomes public." This is the value at 0. A step lists the rows
+  -- that it opens; `written` and `outcome` in Run.antt put their shares in the record.
   unfoldable pub value : Row → ℕ
   value x = secret (S .p) (S .t) x
 

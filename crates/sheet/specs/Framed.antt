@@ -9,9 +9,11 @@ use Rattle.model.specs.Steps.{Setting}
 use Rattle.model.specs.Sheet.{headerOf}
 use Rattle.sheet.specs.declared.frame.Frame.{Frame}
 
+-- a frame's p, ℓ, n and t
 abbrev pub settingIn : Frame → Setting
 settingIn f = record { p = f .p; l = f .l; n = f .n; t = f .t }
 
+-- The frame f of a sheet s that 1 to 4 do not refuse: the header's numbers, and the places where input rows, masks and triples start.
 pub record Framed (s : List ℕ) (f : Frame) : Type 0 where
   -- the header's numbers
   pub listed : headerOf s .field < 4
