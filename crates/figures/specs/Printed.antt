@@ -21,7 +21,8 @@ sheet =
     (three 7 9 11 ∷ three 7 11 2 ∷ [])
     (record { masks = []; triples = record { a = three 2 3 4; b = three 5 8 11; c = three 7 12 4 } ∷ [] })
 
--- "opened 5 6 7; opened 2 3 4; opened 7 12 4; revealed 2; end 0 at 10 inputs 2 masks 0 triples 1 openings 3"
+-- What is printed of it: "opened 5 6 7", "opened 2 3 4", "opened 7 12 4", "revealed 2 signed 2",
+-- "end 0 at 10 inputs 2 masks 0 triples 1 openings 3".
 unfoldable pub answer : Outcome
 answer =
     record {

@@ -134,13 +134,10 @@ sharesBelow S x = allBelow (S .p) (take (S .n) x)
 abbrev pub aSharing : Setting → Row → Bool
 aSharing S x = isSharing (S .p) (S .n) (S .t) x
 
--- "Tried in this order, each over the whole sheet before the next": 1 to 8, or 0. A test is of what must hold, and its number is the refusal's.
-unfoldable pub sheetNumber : List ℕ → ℕ
-sheetNumber s =
+-- 1 to 4, or the number of what is tried after them
+abbrev pub headerTried : List ℕ → ℕ → ℕ
+headerTried s rest =
     let h = headerOf s in
-    let S = settingOf h in
-    let d = dealIn h s in
-    let rows = inputIn h s ++ dealRows d in
     -- "1: fewer than 11 bytes"
     tried (leb 11 (length s)) 1
     -- "2: field over 3"
@@ -148,7 +145,16 @@ sheetNumber s =
     -- "3: n or t outside the ranges"
     (tried (parties (h .n) (h .t)) 3
     -- "4: a count over its limit, or a sheet length other than the header implies"
-    (tried (limits h && eqb (length s) (impliedLength h)) 4
+    (tried (limits h && eqb (length s) (impliedLength h)) 4 rest)))
+
+-- "Tried in this order, each over the whole sheet before the next": 1 to 8, or 0. A test is of what must hold, and its number is the refusal's.
+unfoldable pub sheetNumber : List ℕ → ℕ
+sheetNumber s =
+    let h = headerOf s in
+    let S = settingOf h in
+    let d = dealIn h s in
+    let rows = inputIn h s ++ dealRows d in
+    headerTried s
     -- "5: a share not below p"
     (tried (all (sharesBelow S) rows) 5
     -- "6: a row that is no sharing"
@@ -156,7 +162,7 @@ sheetNumber s =
     -- "7: a mask not well formed"
     (tried (all (goodMask S) (d .masks)) 7
     -- "8: a triple not well formed"
-    (tried (all (goodTriple S) (d .triples)) 8 0)))))))
+    (tried (all (goodTriple S) (d .triples)) 8 0))))
 
 -- The other way, for "the sheet made of header, script, input and deal". "Numbers are little-endian": v in w bytes
 unfoldable pub bytesOf : ℕ → ℕ → List ℕ
