@@ -2,7 +2,7 @@
 //! and references, so nothing is tested here.
 
 #[path = "c.rs"]
-mod c;
+pub mod c;
 
 /// No run outgrows a record and a revealed list of these lengths.
 pub const RECORD: usize = 10850;
@@ -23,7 +23,20 @@ pub struct Ran {
 
 pub fn run(sheet: &[u8], record: &mut [u32], revealed: &mut [u32]) -> Ran {
     let mut ran = Ran { number: 0, registers: [0; CELLS], marks: [0; MARKS], counts: [0; COUNTS] };
-    ran.number = unsafe {
+    ran.number = run_lent(sheet, record, revealed, &mut ran.registers, &mut ran.marks, &mut ran.counts);
+    ran
+}
+
+/// The run with lists of any length for registers, marks and counts.
+pub fn run_lent(
+    sheet: &[u8],
+    record: &mut [u32],
+    revealed: &mut [u32],
+    registers: &mut [u32],
+    marks: &mut [u8],
+    counts: &mut [u64],
+) -> u32 {
+    unsafe {
         c::jundrethol_run(
             sheet.as_ptr(),
             sheet.len(),
@@ -31,15 +44,14 @@ pub fn run(sheet: &[u8], record: &mut [u32], revealed: &mut [u32]) -> Ran {
             record.len(),
             revealed.as_mut_ptr(),
             revealed.len(),
-            ran.registers.as_mut_ptr(),
-            ran.registers.len(),
-            ran.marks.as_mut_ptr(),
-            ran.marks.len(),
-            ran.counts.as_mut_ptr(),
-            ran.counts.len(),
+            registers.as_mut_ptr(),
+            registers.len(),
+            marks.as_mut_ptr(),
+            marks.len(),
+            counts.as_mut_ptr(),
+            counts.len(),
         )
-    };
-    ran
+    }
 }
 
 /// A refusal's number is the error.

@@ -6,6 +6,7 @@
 //! run on average. On a busy machine the best round tells most: a round is slowed by what else runs.
 
 mod library;
+mod words;
 
 use std::hint::black_box;
 use std::process::ExitCode;
@@ -162,18 +163,9 @@ fn rounds(words: &[String]) -> Result<usize, String> {
 }
 
 fn main() -> ExitCode {
-    let words = std::env::args_os().skip(1);
-    let words: Vec<_> = words.map(|word| word.to_string_lossy().into()).collect();
-    if words == ["--help"] {
-        println!("{USAGE}");
-        return ExitCode::SUCCESS;
-    }
-    let rounds = match rounds(&words) {
+    let rounds = match words::read("bench", USAGE, rounds) {
         Ok(rounds) => rounds,
-        Err(message) => {
-            eprintln!("bench: {message}\n\n{USAGE}");
-            return ExitCode::from(2);
-        }
+        Err(code) => return code,
     };
     println!("{rounds} rounds");
     let sheets = [

@@ -8,6 +8,7 @@
 
 mod entries;
 mod library;
+mod words;
 
 use std::process::ExitCode;
 
@@ -138,18 +139,9 @@ fn numbers(words: &[String]) -> Result<(u64, u64, u64), String> {
 }
 
 fn main() -> ExitCode {
-    let words = std::env::args_os().skip(1);
-    let words: Vec<_> = words.map(|word| word.to_string_lossy().into()).collect();
-    if words == ["--help"] {
-        println!("{USAGE}");
-        return ExitCode::SUCCESS;
-    }
-    let (seed, count, first) = match numbers(&words) {
+    let (seed, count, first) = match words::read("compare", USAGE, numbers) {
         Ok(numbers) => numbers,
-        Err(message) => {
-            eprintln!("compare: {message}\n\n{USAGE}");
-            return ExitCode::from(2);
-        }
+        Err(code) => return code,
     };
     let mut tally = Tally::default();
     tally.stored();
