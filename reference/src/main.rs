@@ -3,11 +3,11 @@
 use std::io::{self, Read, Write};
 use std::process::ExitCode;
 
-use reference::{case, cases, line, run_case, sheets, steps, table};
+use reference::{case, cases, line, model_cases, run_case, sheets, steps, table};
 
 const USAGE: &str = "usage: reference WORD [NAME]    (reference --help says what each word does)";
 
-/// NAMES stands for the names of the examples.
+/// TABLES stands for the names of the model's tables, NAMES for those of the examples.
 const HELP: &str = "\
 usage: reference WORD [NAME]
 
@@ -19,6 +19,7 @@ step-cases    writes the stored cases of the steps
 step-answers  writes the answers to those
 run-cases     writes the stored sheets, each with the lengths of its lent buffers
 run-answers   reads such sheets and writes all that each run leaves
+model-cases NAME  writes one of the model's tables of cases; the names are TABLES
 table         reads a sheet and writes the lines of its run
 example NAME  writes an example sheet; the names are NAMES
 largest       writes a sheet that reaches every limit
@@ -40,11 +41,13 @@ fn main() -> ExitCode {
         ["step-answers"] => step_answers(),
         ["run-cases"] => write_out(&all_bytes(&sheets::stored::all(), |case| case.to_bytes())),
         ["run-answers"] => run_answers(),
+        ["model-cases", name] => model_table(name),
         ["table"] => read_in().and_then(|sheet| write_out(table::lines(&sheet).as_bytes())),
         ["example", name] => example(name),
         ["largest"] => write_out(&sheets::bench::largest()),
-        ["--help"] => write_out(HELP.replace("NAMES", &example_names()).as_bytes()),
+        ["--help"] => write_out(help().as_bytes()),
         [] => return refuse("a word is missing"),
+        ["model-cases"] => return refuse("model-cases: the NAME is missing"),
         ["example"] => return refuse("example: the NAME is missing"),
         _ => return refuse(&format!("not understood: {}", words.join(" "))),
     };
@@ -99,6 +102,13 @@ fn run_answers() -> Result<(), String> {
     write_out(lines.as_bytes())
 }
 
+fn model_table(name: &str) -> Result<(), String> {
+    let names = model_cases::NAMES.join(", ");
+    let text = model_cases::text(name)
+        .ok_or_else(|| format!("no table {name}; the tables are {names}"))?;
+    write_out(text.as_bytes())
+}
+
 fn example(name: &str) -> Result<(), String> {
     let names = example_names();
     let sheet = sheets::examples::named(name)
@@ -108,6 +118,11 @@ fn example(name: &str) -> Result<(), String> {
 
 fn example_names() -> String {
     sheets::examples::NAMES.join(", ")
+}
+
+fn help() -> String {
+    HELP.replace("TABLES", &model_cases::NAMES.join(", "))
+        .replace("NAMES", &example_names())
 }
 
 fn read_in() -> Result<Vec<u8>, String> {

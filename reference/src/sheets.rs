@@ -6,6 +6,7 @@ mod drawer;
 pub mod examples;
 mod fault;
 mod good;
+pub mod held;
 pub mod stored;
 mod wrong;
 

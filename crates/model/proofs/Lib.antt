@@ -33,3 +33,4 @@ pub mod Veiling
 pub mod Veil
 pub mod MadeSheets
 pub mod Secrecy
+pub mod Cases

@@ -13,3 +13,9 @@ pub mod Shamir
 pub mod Making
 pub mod Exactness
 pub mod Secrecy
+pub mod CaseForms
+pub mod SheetCases
+pub mod ScriptCases
+pub mod RunCases
+pub mod EntryCases
+pub mod Cases
