@@ -5,22 +5,34 @@ use crate::cases::generator::Generator;
 use crate::dealer::Dealer;
 use crate::script::command::Command;
 use crate::sheets::draft::Draft;
-use crate::steps::Triple;
 
 const SEED: u64 = 0x5EED_0007;
 
 pub fn all() -> Vec<Held> {
     let mut all = linear();
     all.extend(masked());
-    all.push(with_zeros());
     all
+}
+
+/// A deal drawn for the commands, with buffers that take all they write.
+fn held(
+    says: &'static str,
+    (field, parties): (u32, (u32, u32)),
+    commands: &[Command],
+    secrets: &[u32],
+    masks: &[u32],
+) -> Held {
+    let mut generator = Generator::at(SEED, u64::from(8 * field + parties.0));
+    let mut dealer = Dealer::new(&mut generator, field, parties);
+    let draft = Draft::deal(&mut dealer, commands, secrets, masks);
+    Held::with_room(says, &draft)
 }
 
 /// Sum, difference, multiple and product of two inputs, and the product revealed.
 fn linear() -> Vec<Held> {
     use Command::*;
-    let commands = |v| {
-        [
+    let run = |says, field, secrets: [u32; 2], v| {
+        let commands = [
             Load { d: 0 },
             Load { d: 1 },
             Const { d: 2, v },
@@ -29,98 +41,35 @@ fn linear() -> Vec<Held> {
             Scale { d: 5, a: 1, v },
             Mul { d: 6, a: 0, b: 1 },
             Reveal { a: 6 },
-        ]
+        ];
+        held(says, field, &commands, &secrets, &[])
     };
-    let cases = [
-        ("field 0, four parties, threshold 1", 0, (4, 1), [3, 9], 12),
-        (
-            "field 1, five parties, threshold 2",
-            1,
-            (5, 2),
-            [250, 9],
-            250,
-        ),
-        (
-            "field 2, six parties, threshold 2",
-            2,
-            (6, 2),
-            [65_520, 700],
-            65_520,
-        ),
-        (
-            "field 3, seven parties, threshold 3",
-            3,
-            (7, 3),
-            [5, 2_147_483_640],
-            2_147_483_646,
-        ),
-    ];
-    (0..)
-        .zip(cases)
-        .map(|(index, (says, field, parties, secrets, v))| {
-            let mut generator = Generator::at(SEED, index);
-            let mut dealer = Dealer::new(&mut generator, field, parties);
-            let draft = Draft::deal(&mut dealer, &commands(v), &secrets, &[]);
-            Held::with_room(says, &draft)
-        })
-        .collect()
+    let last = 2_147_483_646;
+    vec![
+        run("field 0, n = 4, t = 1", (0, (4, 1)), [3, 9], 12),
+        run("field 1, n = 5, t = 2", (1, (5, 2)), [250, 9], 250),
+        run("field 2, n = 6, t = 2", (2, (6, 2)), [65_520, 700], 65_520),
+        run("field 3, n = 7, t = 3", (3, (7, 3)), [5, last - 6], last),
+    ]
 }
 
-/// A command that takes a mask in fields 1 and 2.
+/// Commands that take a mask in field 1.
 fn masked() -> Vec<Held> {
-    use Command::*;
-    let (d, a) = (1, 0);
-    let cases = [
-        (
-            "MOD k=7 m=2 in field 1",
-            1,
-            (3, 1),
-            Mod { d, a, k: 7, m: 2 },
-            211,
-            250,
-        ),
-        (
-            "TRUNC k=7 m=1 in field 1, five parties",
-            1,
+    let run = |says, parties, command, secret, r| {
+        let commands = [Command::Load { d: 0 }, command, Command::Reveal { a: 1 }];
+        held(says, (1, parties), &commands, &[secret], &[r])
+    };
+    let (d, a, k) = (1, 0, 7);
+    let remainder = Command::Mod { d, a, k, m: 2 };
+    let floor = Command::Trunc { d, a, k, m: 1 };
+    vec![
+        run("field 1, MOD k=7 m=2, -41: 3", (3, 1), remainder, 210, 250),
+        run(
+            "field 1, n = 5, t = 2, TRUNC k=7 m=1, 63: 31",
             (5, 2),
-            Trunc { d, a, k: 7, m: 1 },
+            floor,
             63,
             77,
         ),
-        (
-            "OVER k=2 v=170 of 171 in field 2",
-            2,
-            (3, 1),
-            Over { d, a, k: 2, v: 170 },
-            171,
-            5,
-        ),
-    ];
-    (100..)
-        .zip(cases)
-        .map(|(index, (says, field, parties, command, secret, r))| {
-            let mut generator = Generator::at(SEED, index);
-            let mut dealer = Dealer::new(&mut generator, field, parties);
-            let commands = [Load { d: 0 }, command, Reveal { a: 1 }];
-            Held::with_room(says, &Draft::deal(&mut dealer, &commands, &[secret], &[r]))
-        })
-        .collect()
-}
-
-/// The largest field with a deal of zeros.
-fn with_zeros() -> Held {
-    let (d, a, k, m) = (1, 0, 30, 1);
-    let commands = [Command::Load { d: 0 }, Command::Blocks { d, a, k, m }];
-    let mut generator = Generator::at(SEED, 200);
-    let mut dealer = Dealer::new(&mut generator, 3, (3, 1));
-    let mut draft = Draft::deal(&mut dealer, &commands, &[500_000_001], &[0]);
-    let zero = crate::row::Row::constant(0, 3);
-    let triple = Triple {
-        a: zero,
-        b: zero,
-        c: zero,
-    };
-    draft.masks = vec![vec![zero; 31]];
-    draft.triples = vec![triple; draft.triples.len()];
-    Held::with_room("BLOCKS k=30 m=1 in field 3, a deal of zeros", &draft)
+    ]
 }

@@ -138,55 +138,68 @@ fn no_mask() -> Vec<Stop> {
     all
 }
 
-/// A triple less than the command takes, and just as many with room for a share less than it opens.
-fn few_triples() -> Vec<Stop> {
+/// CONST 0 1 and a command that takes so many masks and triples.
+fn taking() -> [(Command, usize, usize); 6] {
     use Command::*;
     let (d, a, k, m, v) = (1, 0, 3, 1, 1);
-    let mut all = Vec::new();
-    for (command, masks, triples) in [
+    [
         (Mul { d, a, b: 0 }, 0, 1),
         (Mod { d, a, k, m }, 1, 4),
         (Trunc { d, a, k, m: 2 }, 1, 6),
         (Ltz { d, a, k }, 1, 6),
         (Over { d, a, k: 2, v }, 1, 4),
         (Blocks { d, a, k, m }, 1, 4),
-    ] {
-        let says = "24 before 25: a triple less than the command takes";
-        all.push(Stop {
-            masks,
-            triples: triples - 1,
-            ..after_const(says, command)
-        });
-        let says = "25: the record takes all its shares but one";
-        let record = 3 * (masks + 2 * triples) - 1;
-        all.push(Stop {
-            masks,
-            triples,
-            record,
-            ..after_const(says, command)
-        });
-    }
-    let bits = vec![
+    ]
+}
+
+/// A triple less than the command takes, or room for a share less than it opens.
+fn few_triples() -> Vec<Stop> {
+    let says = "24 before 25: a triple less than the command takes";
+    let less = taking().map(|(command, masks, triples)| Stop {
+        masks,
+        triples: triples - 1,
+        ..after_const(says, command)
+    });
+    let says = "25: the record takes all its shares but one";
+    let short = taking().map(|(command, masks, triples)| Stop {
+        masks,
+        triples,
+        record: 3 * (masks + 2 * triples) - 1,
+        ..after_const(says, command)
+    });
+    less.into_iter()
+        .chain(short)
+        .chain(comparisons())
+        .chain(products())
+        .collect()
+}
+
+fn comparisons() -> Vec<Stop> {
+    use Command::*;
+    let (b, w, v) = (0, 3, 5);
+    let commands = vec![
         Load { d: 0 },
         Load { d: 1 },
         Load { d: 2 },
-        Bitlt {
-            d: 3,
-            b: 0,
-            w: 3,
-            v: 5,
-        },
+        Bitlt { d: 3, b, w, v },
     ];
     let bitlt = |says, triples, record| Stop {
         inputs: 3,
         triples,
         record,
-        commands: bits.clone(),
+        commands: commands.clone(),
         ..after_const(says, End)
     };
-    all.push(bitlt("24 before 25: BITLT w=3 takes two triples", 1, 0));
-    all.push(bitlt("25: BITLT w=3 opens four rows", 2, 11));
-    let twice = vec![
+    vec![
+        bitlt("24 before 25: BITLT w=3 takes two triples", 1, 0),
+        bitlt("25: BITLT w=3 opens four rows", 2, 11),
+    ]
+}
+
+fn products() -> Vec<Stop> {
+    use Command::*;
+    let (a, d) = (0, 1);
+    let commands = vec![
         Const { d: 0, v: 1 },
         Mul { d, a, b: 0 },
         Mul { d: 2, a, b: 1 },
@@ -194,13 +207,14 @@ fn few_triples() -> Vec<Stop> {
     let muls = |says, triples, record| Stop {
         triples,
         record,
-        commands: twice.clone(),
+        commands: commands.clone(),
         ..after_const(says, End)
     };
-    all.push(muls("24: no triple is left; the first MUL stands", 1, 12));
-    all.push(muls("25: room for one MUL; the first stands", 2, 11));
-    all.push(muls("room for both", 2, 12));
-    all
+    vec![
+        muls("24: no triple is left; the first MUL stands", 1, 12),
+        muls("25: room for one MUL; the first stands", 2, 11),
+        muls("room for both", 2, 12),
+    ]
 }
 
 /// REVEAL with too little room in either buffer.
