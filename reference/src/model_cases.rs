@@ -6,7 +6,13 @@ use crate::sharing::{recover, share};
 use crate::sheets::held::{self as sheets, Held, Left};
 use crate::signed::{decode, encode};
 
-pub const NAMES: [&str; 4] = ["SheetCases", "ScriptCases", "RunCases", "EntryCases"];
+pub const NAMES: [&str; 5] = [
+    "SheetCases",
+    "ScriptCases",
+    "RunCases",
+    "MaskCases",
+    "EntryCases",
+];
 
 /// No line of a table is longer, but for a long comment.
 const WIDTH: usize = 140;
@@ -31,9 +37,14 @@ pub fn text(name: &str) -> Option<String> {
             sheet_rows(&sheets::scripts()),
         )),
         "RunCases" => Some(file(
-            "\"Steps\" and \"Refused because of the state\": each command with the rows that it opens, and 21 to 26.",
+            "\"Steps\" and \"Refused because of the state\": the commands that take no mask, and 21 to 26.",
             ("Case", "runCases"),
             sheet_rows(&sheets::runs()),
+        )),
+        "MaskCases" => Some(file(
+            "\"Steps\": the commands that take a mask, with the rows that they open.",
+            ("Case", "maskCases"),
+            sheet_rows(&sheets::masked()),
         )),
         "EntryCases" => Some(file(
             "\"Fields and parties\": calls of the small entries, and what they answer.",
@@ -283,4 +294,37 @@ fn chained<T: Copy + PartialEq + std::fmt::Display>(numbers: &[T]) -> String {
         None => text + "[]",
     };
     text + &")".repeat(open)
+}
+
+#[cfg(test)]
+mod tests {
+    use super::*;
+
+    #[test]
+    fn long_runs_of_one_number_are_replicated() {
+        assert_eq!(list::<u32>(&[]), "[]");
+        assert_eq!(list(&[0; 9]), format!("({}[])", "0 ∷ ".repeat(9)));
+        assert_eq!(list(&[0; 10]), "(replicate 10 0)");
+        let numbers = [vec![1], vec![0; 10], vec![2], vec![3; 11], vec![4]].concat();
+        assert_eq!(
+            list(&numbers),
+            "(1 ∷ (replicate 10 0 ++ 2 ∷ (replicate 11 3 ++ 4 ∷ [])))"
+        );
+    }
+
+    #[test]
+    fn lines_are_not_long() {
+        for name in NAMES {
+            for line in text(name).unwrap().lines() {
+                assert!(line.chars().count() <= 150, "{line}");
+            }
+        }
+    }
+
+    #[test]
+    fn each_row_has_its_comment_and_answer() {
+        let text = text("ScriptCases").unwrap();
+        let row = "    -- 10: no END: the place is the script length\n    ∷ scripted 0 (1 ∷ 0 ∷ []) 10 2\n";
+        assert!(text.contains(row));
+    }
 }

@@ -2,5 +2,6 @@ pub mod Examples
 pub mod Figures
 pub mod Printed
 pub mod Witness
+pub mod Commanded
 pub mod TwinSheets
 pub mod Room

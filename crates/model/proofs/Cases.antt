@@ -18,8 +18,9 @@ use Rattle.model.specs.CaseForms.{registersSeen, seen, Hold, EntriesHold
 use Rattle.model.specs.SheetCases.{sheetCases}
 use Rattle.model.specs.ScriptCases.{scriptCases}
 use Rattle.model.specs.RunCases.{runCases}
+use Rattle.model.specs.MaskCases.{maskCases}
 use Rattle.model.specs.EntryCases.{entryCases}
-use Rattle.model.specs.Cases.{Cases}
+use Rattle.model.specs.Cases.{checks, Cases}
 
 pub sheets-hold : Hold sheetCases
 unfolding add sub mul allBelow from over tab row modulus bits largestK inverse parties eval share newton reciprocal slope interpolate recover secret sameList isSharing number rowAt commandAt sizeAt inRanges numberAt scriptFrom scriptOf cost headerOf limits impliedLength scriptIn rowsAt masksFrom triplesFrom inputIn dealIn all maskRows tripleRows spell secrets goodMask goodTriple sheetNumber bytesOf shareBytes allSet marked check pay perform finish runLines nothingSpent start written outcome runScript stopOf run registersSeen seen sheetCases
@@ -33,9 +34,14 @@ pub runs-hold : Hold runCases
 unfolding add sub mul allBelow from over tab row modulus bits largestK inverse inversePowerOf2 parties eval share newton reciprocal slope interpolate recover secret sameList isSharing number rowAt plus minus times constant value beaver product comparisonFrom comparison spelled unmasked remainder floor sign overStep blocks commandAt sizeAt inRanges numberAt scriptFrom scriptOf cost headerOf limits impliedLength scriptIn rowsAt masksFrom triplesFrom inputIn dealIn all maskRows tripleRows spell secrets goodMask goodTriple sheetNumber bytesOf shareBytes allSet marked check pay registersFrom put perform finish runLines nothingSpent start written outcome runScript stopOf run registersSeen seen runCases
 runs-hold = refl
 
+pub masked-hold : Hold maskCases
+unfolding add sub mul allBelow from over tab row modulus bits largestK inverse inversePowerOf2 parties eval share newton reciprocal slope interpolate recover secret sameList isSharing number rowAt plus minus times constant value beaver product comparisonFrom comparison spelled unmasked remainder floor sign overStep blocks commandAt sizeAt inRanges numberAt scriptFrom scriptOf cost headerOf limits impliedLength scriptIn rowsAt masksFrom triplesFrom inputIn dealIn all maskRows tripleRows spell secrets goodMask goodTriple sheetNumber bytesOf shareBytes allSet marked check pay registersFrom put perform finish runLines nothingSpent start written outcome runScript stopOf run registersSeen seen maskCases
+masked-hold = refl
+
 pub entries-hold : EntriesHold entryCases
 unfolding add sub mul allBelow from tab row modulus largestK inverse parties inRange code readBack eval share newton reciprocal slope interpolate recover secret sameList isSharing shareNumber shareLeft recoverNumber recoverValue recoverLeft encodeNumber encodeValue decodeNumber decodeValue entryCases
 entries-hold = refl
 
 pub cases : Cases
-cases = record { sheets = sheets-hold; scripts = scripts-hold; runs = runs-hold; entries = entries-hold }
+unfolding allSet check checks
+cases = record { sheets = sheets-hold; scripts = scripts-hold; runs = runs-hold; masked = masked-hold; order = refl; entries = entries-hold }

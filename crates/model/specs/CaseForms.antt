@@ -1,4 +1,4 @@
--- The forms of the rows in SheetCases, ScriptCases, RunCases and EntryCases: what the definitions give, and what the paper says.
+-- The forms of the rows in SheetCases, ScriptCases, RunCases, MaskCases and EntryCases: what the definitions give, and what the paper says.
 -- Assumes nothing.
 use mathlib.Core.Path.{_≡_}
 use mathlib.Core.Bool.{Bool, true, false, cond}

@@ -7,7 +7,7 @@ use Rattle.model.specs.CaseForms.{Entry, shared, recovered, encoded, dec
 
 unfoldable pub entryCases : List Entry
 entryCases =
-    -- share: 5 + 2x
+    -- share 5 + 2x
     shared 0 3 1 5 (2 ∷ []) 3 0 (7 ∷ 9 ∷ 11 ∷ [])
     -- p - 1 is a secret and a coefficient
     ∷ shared 0 3 1 12 (12 ∷ []) 3 0 (11 ∷ 10 ∷ 9 ∷ [])
@@ -47,7 +47,7 @@ entryCases =
     ∷ shared 0 3 1 13 (2 ∷ []) 3 5 (99 ∷ 99 ∷ 99 ∷ [])
     -- 5: a coefficient is p
     ∷ shared 0 5 2 5 (2 ∷ 13 ∷ []) 5 5 (99 ∷ 99 ∷ 99 ∷ 99 ∷ 99 ∷ [])
-    -- recover: 5 and 2
+    -- recover 5 and 2
     ∷ recovered 0 3 1 (7 ∷ 9 ∷ 11 ∷ []) 1 0 (pos 5) (2 ∷ [])
     -- p - 1 is a share
     ∷ recovered 0 3 1 (12 ∷ 12 ∷ 12 ∷ []) 1 0 (pos 12) (0 ∷ [])
@@ -93,7 +93,7 @@ entryCases =
     ∷ recovered 0 3 1 (6 ∷ 9 ∷ 11 ∷ []) 1 6 (pos 0) (99 ∷ [])
     -- 6: a cubic, threshold 2
     ∷ recovered 1 5 2 (1 ∷ 8 ∷ 27 ∷ 64 ∷ 125 ∷ []) 2 6 (pos 0) (99 ∷ 99 ∷ [])
-    -- encode: 2: field 4
+    -- 2: encode, field 4
     ∷ encoded 4 3 (pos 0) 2 (pos 0)
     -- 2 before 11
     ∷ encoded 4 1 (pos 9) 2 (pos 0)
@@ -134,7 +134,7 @@ entryCases =
     ∷ encoded 1 7 (pos 64) 11 (pos 0)
     ∷ encoded 2 15 (pos 16384) 11 (pos 0)
     ∷ encoded 3 30 (pos 536870912) 11 (pos 0)
-    -- decode: 2: field 4
+    -- 2: decode, field 4
     ∷ decoded 4 0 2 (pos 0)
     -- 2 before 5
     ∷ decoded 4 4294967295 2 (pos 0)

@@ -17,5 +17,6 @@ pub mod CaseForms
 pub mod SheetCases
 pub mod ScriptCases
 pub mod RunCases
+pub mod MaskCases
 pub mod EntryCases
 pub mod Cases

@@ -56,18 +56,19 @@ scriptCases =
     ∷ scripted 0 (1 ∷ 0 ∷ 13 ∷ 1 ∷ 3 ∷ 3 ∷ 4 ∷ 0 ∷ 0 ∷ 0 ∷ []) 10 10
     -- 10 before 11: ADD 64 0, cut off
     ∷ scripted 0 (1 ∷ 0 ∷ 3 ∷ 64 ∷ 0 ∷ []) 10 2
-    -- command by command: 11 stands before 9
+    -- 11 before 9, command by command
     ∷ scripted 0 (1 ∷ 0 ∷ 1 ∷ 64 ∷ 14 ∷ 0 ∷ []) 11 2
-    -- 9 stands before 11
+    -- 9 before 11, command by command
     ∷ scripted 0 (1 ∷ 0 ∷ 14 ∷ 1 ∷ 64 ∷ 0 ∷ []) 9 2
-    -- 11 stands before a missing END
+    -- 11 before a missing END
     ∷ scripted 0 (1 ∷ 0 ∷ 1 ∷ 64 ∷ []) 11 2
-    -- 11 stands before bytes after END
+    -- 11 before bytes after END
     ∷ scripted 0 (1 ∷ 0 ∷ 1 ∷ 64 ∷ 0 ∷ 0 ∷ []) 11 2
-    -- 11 stands before operands cut off
+    -- 11 before operands cut off
     ∷ scripted 0 (1 ∷ 0 ∷ 1 ∷ 64 ∷ 6 ∷ 0 ∷ []) 11 2
-    -- registers to 63
+    -- 22: register 63 is let through
     ∷ scripted 0 (1 ∷ 63 ∷ 0 ∷ []) 22 0
+    -- 21: register 63 is let through
     ∷ scripted 0 (12 ∷ 63 ∷ 0 ∷ []) 21 0
     ∷ scripted 0 (5 ∷ 63 ∷ 63 ∷ 4 ∷ 0 ∷ 0 ∷ 0 ∷ 0 ∷ []) 21 0
     ∷ scripted 0 (7 ∷ 63 ∷ 63 ∷ 3 ∷ 1 ∷ 0 ∷ []) 21 0
@@ -80,8 +81,8 @@ scriptCases =
     ∷ scripted 0 (6 ∷ 63 ∷ 63 ∷ 63 ∷ 0 ∷ []) 21 0
     -- 11: register 64
     ∷ scripted 0 (1 ∷ 0 ∷ 1 ∷ 64 ∷ 0 ∷ []) 11 2
-    ∷ scripted 0 (1 ∷ 0 ∷ 12 ∷ 64 ∷ 0 ∷ []) 11 2
     ∷ scripted 0 (1 ∷ 0 ∷ 2 ∷ 64 ∷ 4 ∷ 0 ∷ 0 ∷ 0 ∷ 0 ∷ []) 11 2
+    ∷ scripted 0 (1 ∷ 0 ∷ 12 ∷ 64 ∷ 0 ∷ []) 11 2
     ∷ scripted 0 (1 ∷ 0 ∷ 5 ∷ 64 ∷ 0 ∷ 4 ∷ 0 ∷ 0 ∷ 0 ∷ 0 ∷ []) 11 2
     ∷ scripted 0 (1 ∷ 0 ∷ 7 ∷ 64 ∷ 0 ∷ 3 ∷ 1 ∷ 0 ∷ []) 11 2
     ∷ scripted 0 (1 ∷ 0 ∷ 8 ∷ 64 ∷ 0 ∷ 3 ∷ 1 ∷ 0 ∷ []) 11 2
@@ -103,7 +104,7 @@ scriptCases =
     ∷ scripted 0 (1 ∷ 0 ∷ 3 ∷ 0 ∷ 0 ∷ 64 ∷ 0 ∷ []) 11 2
     ∷ scripted 0 (1 ∷ 0 ∷ 4 ∷ 0 ∷ 0 ∷ 64 ∷ 0 ∷ []) 11 2
     ∷ scripted 0 (1 ∷ 0 ∷ 6 ∷ 0 ∷ 0 ∷ 64 ∷ 0 ∷ []) 11 2
-    -- k to 3, m to k - 1
+    -- 21: k from 2 to 3, m from 1 to k - 1 are let through
     ∷ scripted 0 (9 ∷ 0 ∷ 0 ∷ 2 ∷ 0 ∷ []) 21 0
     ∷ scripted 0 (10 ∷ 0 ∷ 0 ∷ 2 ∷ 4 ∷ 0 ∷ 0 ∷ 0 ∷ 0 ∷ []) 21 0
     ∷ scripted 0 (9 ∷ 0 ∷ 0 ∷ 3 ∷ 0 ∷ []) 21 0
@@ -132,19 +133,19 @@ scriptCases =
     ∷ scripted 0 (1 ∷ 0 ∷ 7 ∷ 0 ∷ 0 ∷ 3 ∷ 3 ∷ 0 ∷ []) 11 2
     ∷ scripted 0 (1 ∷ 0 ∷ 8 ∷ 0 ∷ 0 ∷ 3 ∷ 3 ∷ 0 ∷ []) 11 2
     ∷ scripted 0 (1 ∷ 0 ∷ 11 ∷ 0 ∷ 0 ∷ 3 ∷ 3 ∷ 0 ∷ []) 11 2
-    -- the field's largest k
+    -- 21: the field's largest k
     ∷ scripted 1 (7 ∷ 0 ∷ 0 ∷ 7 ∷ 6 ∷ 0 ∷ []) 21 0
     -- 11: one more
     ∷ scripted 1 (1 ∷ 0 ∷ 7 ∷ 0 ∷ 0 ∷ 8 ∷ 1 ∷ 0 ∷ []) 11 2
-    -- the field's largest k
+    -- 21: the field's largest k
     ∷ scripted 2 (7 ∷ 0 ∷ 0 ∷ 15 ∷ 14 ∷ 0 ∷ []) 21 0
     -- 11: one more
     ∷ scripted 2 (1 ∷ 0 ∷ 7 ∷ 0 ∷ 0 ∷ 16 ∷ 1 ∷ 0 ∷ []) 11 2
-    -- the field's largest k
+    -- 21: the field's largest k
     ∷ scripted 3 (7 ∷ 0 ∷ 0 ∷ 30 ∷ 29 ∷ 0 ∷ []) 21 0
     -- 11: one more
     ∷ scripted 3 (1 ∷ 0 ∷ 7 ∷ 0 ∷ 0 ∷ 31 ∷ 1 ∷ 0 ∷ []) 11 2
-    -- v to p - 1
+    -- 21: v to p - 1
     ∷ scripted 0 (5 ∷ 0 ∷ 0 ∷ 12 ∷ 0 ∷ 0 ∷ 0 ∷ 0 ∷ []) 21 0
     ∷ scripted 0 (10 ∷ 0 ∷ 0 ∷ 2 ∷ 12 ∷ 0 ∷ 0 ∷ 0 ∷ 0 ∷ []) 21 0
     -- 11: v is p
@@ -155,19 +156,19 @@ scriptCases =
     ∷ scripted 0 (1 ∷ 0 ∷ 2 ∷ 0 ∷ 0 ∷ 0 ∷ 0 ∷ 1 ∷ 0 ∷ []) 11 2
     ∷ scripted 0 (1 ∷ 0 ∷ 5 ∷ 0 ∷ 0 ∷ 0 ∷ 0 ∷ 0 ∷ 1 ∷ 0 ∷ []) 11 2
     ∷ scripted 0 (1 ∷ 0 ∷ 10 ∷ 0 ∷ 0 ∷ 2 ∷ 0 ∷ 0 ∷ 0 ∷ 1 ∷ 0 ∷ []) 11 2
-    -- v to p - 1
+    -- 21: v to p - 1
     ∷ scripted 1 (5 ∷ 0 ∷ 0 ∷ 250 ∷ 0 ∷ 0 ∷ 0 ∷ 0 ∷ []) 21 0
     -- 11: v is p
     ∷ scripted 1 (1 ∷ 0 ∷ 5 ∷ 0 ∷ 0 ∷ 251 ∷ 0 ∷ 0 ∷ 0 ∷ 0 ∷ []) 11 2
-    -- v to p - 1
+    -- 21: v to p - 1
     ∷ scripted 2 (5 ∷ 0 ∷ 0 ∷ 240 ∷ 255 ∷ 0 ∷ 0 ∷ 0 ∷ []) 21 0
     -- 11: v is p
     ∷ scripted 2 (1 ∷ 0 ∷ 5 ∷ 0 ∷ 0 ∷ 241 ∷ 255 ∷ 0 ∷ 0 ∷ 0 ∷ []) 11 2
-    -- v to p - 1
+    -- 21: v to p - 1
     ∷ scripted 3 (5 ∷ 0 ∷ 0 ∷ 254 ∷ 255 ∷ 255 ∷ 127 ∷ 0 ∷ []) 21 0
     -- 11: v is p
     ∷ scripted 3 (1 ∷ 0 ∷ 5 ∷ 0 ∷ 0 ∷ 255 ∷ 255 ∷ 255 ∷ 127 ∷ 0 ∷ []) 11 2
-    -- w from 1 to 31, b + w to 64, v to 2^w - 1
+    -- 21: w from 1 to 31, b + w to 64, v to 2^w - 1
     ∷ scripted 0 (13 ∷ 63 ∷ 63 ∷ 1 ∷ 0 ∷ 0 ∷ 0 ∷ 0 ∷ 0 ∷ []) 21 0
     ∷ scripted 0 (13 ∷ 0 ∷ 63 ∷ 1 ∷ 1 ∷ 0 ∷ 0 ∷ 0 ∷ 0 ∷ []) 21 0
     ∷ scripted 0 (13 ∷ 0 ∷ 33 ∷ 31 ∷ 255 ∷ 255 ∷ 255 ∷ 127 ∷ 0 ∷ []) 21 0
@@ -186,6 +187,6 @@ scriptCases =
     ∷ scripted 0 (1 ∷ 0 ∷ 13 ∷ 0 ∷ 0 ∷ 1 ∷ 2 ∷ 0 ∷ 0 ∷ 0 ∷ 0 ∷ []) 11 2
     ∷ scripted 0 (1 ∷ 0 ∷ 13 ∷ 0 ∷ 0 ∷ 31 ∷ 0 ∷ 0 ∷ 0 ∷ 128 ∷ 0 ∷ []) 11 2
     ∷ scripted 0 (1 ∷ 0 ∷ 13 ∷ 0 ∷ 0 ∷ 2 ∷ 4 ∷ 0 ∷ 0 ∷ 0 ∷ 0 ∷ []) 11 2
-    -- v is not held to p
+    -- 21: v is not held to p
     ∷ scripted 0 (13 ∷ 0 ∷ 0 ∷ 4 ∷ 15 ∷ 0 ∷ 0 ∷ 0 ∷ 0 ∷ []) 21 0
     ∷ []

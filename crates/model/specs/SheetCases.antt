@@ -13,7 +13,7 @@ sheetCases =
     ∷ stopped (0 ∷ 3 ∷ 1 ∷ 0 ∷ 0 ∷ 0 ∷ 0 ∷ 0 ∷ 0 ∷ 0 ∷ []) [] [] 1 0
     -- 1 before 2
     ∷ stopped (4 ∷ 3 ∷ 1 ∷ 0 ∷ 0 ∷ 0 ∷ 0 ∷ 0 ∷ 0 ∷ 0 ∷ []) [] [] 1 0
-    -- eleven bytes are not refused with 1
+    -- 10: eleven bytes, an empty script
     ∷ scripted 0 [] 10 0
     -- 2: field 4
     ∷ stopped (4 ∷ 3 ∷ 1 ∷ 0 ∷ 0 ∷ 0 ∷ 0 ∷ 0 ∷ 0 ∷ 1 ∷ 0 ∷ 0 ∷ []) [] [] 2 0
@@ -46,22 +46,6 @@ sheetCases =
     ∷ stopped (0 ∷ 8 ∷ 3 ∷ 65 ∷ 0 ∷ 0 ∷ 0 ∷ 0 ∷ 0 ∷ 1 ∷ 0 ∷ []) (0 ∷ []) [] 3 0
     -- 3 before 4: the threshold
     ∷ stopped (0 ∷ 3 ∷ 0 ∷ 0 ∷ 0 ∷ 0 ∷ 0 ∷ 0 ∷ 0 ∷ 2 ∷ 0 ∷ []) (0 ∷ []) [] 3 0
-    -- 64 input rows
-    ∷ stopped (0 ∷ 3 ∷ 1 ∷ 64 ∷ 0 ∷ 0 ∷ 0 ∷ 0 ∷ 0 ∷ 1 ∷ 0 ∷ []) (0 ∷ []) (replicate 192 0) 0 0
-    -- 4: 65 input rows
-    ∷ stopped (0 ∷ 3 ∷ 1 ∷ 65 ∷ 0 ∷ 0 ∷ 0 ∷ 0 ∷ 0 ∷ 1 ∷ 0 ∷ []) (0 ∷ []) (replicate 195 0) 4 0
-    -- 16 masks
-    ∷ stopped (0 ∷ 3 ∷ 1 ∷ 0 ∷ 0 ∷ 16 ∷ 0 ∷ 0 ∷ 0 ∷ 1 ∷ 0 ∷ []) (0 ∷ []) (replicate 192 0) 0 0
-    -- 4: 17 masks
-    ∷ stopped (0 ∷ 3 ∷ 1 ∷ 0 ∷ 0 ∷ 17 ∷ 0 ∷ 0 ∷ 0 ∷ 1 ∷ 0 ∷ []) (0 ∷ []) (replicate 204 0) 4 0
-    -- 512 triples, refused with 5 for the first share
-    ∷ stopped (0 ∷ 3 ∷ 1 ∷ 0 ∷ 0 ∷ 0 ∷ 0 ∷ 0 ∷ 2 ∷ 1 ∷ 0 ∷ []) (0 ∷ []) (13 ∷ (replicate 4607 0)) 5 0
-    -- 4: 513 triples
-    ∷ stopped (0 ∷ 3 ∷ 1 ∷ 0 ∷ 0 ∷ 0 ∷ 0 ∷ 1 ∷ 2 ∷ 1 ∷ 0 ∷ []) (0 ∷ []) (13 ∷ (replicate 4616 0)) 4 0
-    -- 1,024 bytes of script, refused with 9
-    ∷ stopped (0 ∷ 3 ∷ 1 ∷ 0 ∷ 0 ∷ 0 ∷ 0 ∷ 0 ∷ 0 ∷ 0 ∷ 4 ∷ []) (14 ∷ (replicate 1023 0)) [] 9 0
-    -- 4: 1,025 bytes of script
-    ∷ stopped (0 ∷ 3 ∷ 1 ∷ 0 ∷ 0 ∷ 0 ∷ 0 ∷ 0 ∷ 0 ∷ 1 ∷ 4 ∷ []) (14 ∷ (replicate 1024 0)) [] 4 0
     -- 4: a byte is missing
     ∷ stopped (0 ∷ 3 ∷ 1 ∷ 0 ∷ 0 ∷ 0 ∷ 0 ∷ 0 ∷ 0 ∷ 2 ∷ 0 ∷ []) (0 ∷ []) [] 4 0
     -- 4: a byte more
@@ -187,4 +171,20 @@ sheetCases =
     ∷ stopped (0 ∷ 3 ∷ 1 ∷ 0 ∷ 0 ∷ 0 ∷ 0 ∷ 1 ∷ 0 ∷ 0 ∷ 0 ∷ []) [] (1 ∷ 1 ∷ 1 ∷ 1 ∷ 1 ∷ 1 ∷ 2 ∷ 2 ∷ 2 ∷ []) 8 0
     -- 8 before 11
     ∷ stopped (0 ∷ 3 ∷ 1 ∷ 0 ∷ 0 ∷ 0 ∷ 0 ∷ 1 ∷ 0 ∷ 3 ∷ 0 ∷ []) (1 ∷ 64 ∷ 0 ∷ []) (1 ∷ 1 ∷ 1 ∷ 1 ∷ 1 ∷ 1 ∷ 2 ∷ 2 ∷ 2 ∷ []) 8 0
+    -- 64 input rows
+    ∷ stopped (0 ∷ 3 ∷ 1 ∷ 64 ∷ 0 ∷ 0 ∷ 0 ∷ 0 ∷ 0 ∷ 1 ∷ 0 ∷ []) (0 ∷ []) (replicate 192 0) 0 0
+    -- 4: 65 input rows
+    ∷ stopped (0 ∷ 3 ∷ 1 ∷ 65 ∷ 0 ∷ 0 ∷ 0 ∷ 0 ∷ 0 ∷ 1 ∷ 0 ∷ []) (0 ∷ []) (replicate 195 0) 4 0
+    -- 16 masks
+    ∷ stopped (0 ∷ 3 ∷ 1 ∷ 0 ∷ 0 ∷ 16 ∷ 0 ∷ 0 ∷ 0 ∷ 1 ∷ 0 ∷ []) (0 ∷ []) (replicate 192 0) 0 0
+    -- 4: 17 masks
+    ∷ stopped (0 ∷ 3 ∷ 1 ∷ 0 ∷ 0 ∷ 17 ∷ 0 ∷ 0 ∷ 0 ∷ 1 ∷ 0 ∷ []) (0 ∷ []) (replicate 204 0) 4 0
+    -- 5: 512 triples, the first share is 13
+    ∷ stopped (0 ∷ 3 ∷ 1 ∷ 0 ∷ 0 ∷ 0 ∷ 0 ∷ 0 ∷ 2 ∷ 1 ∷ 0 ∷ []) (0 ∷ []) (13 ∷ (replicate 4607 0)) 5 0
+    -- 4: 513 triples
+    ∷ stopped (0 ∷ 3 ∷ 1 ∷ 0 ∷ 0 ∷ 0 ∷ 0 ∷ 1 ∷ 2 ∷ 1 ∷ 0 ∷ []) (0 ∷ []) (13 ∷ (replicate 4616 0)) 4 0
+    -- 9: 1,024 bytes of script, the first is 0E
+    ∷ stopped (0 ∷ 3 ∷ 1 ∷ 0 ∷ 0 ∷ 0 ∷ 0 ∷ 0 ∷ 0 ∷ 0 ∷ 4 ∷ []) (14 ∷ (replicate 1023 0)) [] 9 0
+    -- 4: 1,025 bytes of script
+    ∷ stopped (0 ∷ 3 ∷ 1 ∷ 0 ∷ 0 ∷ 0 ∷ 0 ∷ 0 ∷ 0 ∷ 1 ∷ 4 ∷ []) (14 ∷ (replicate 1024 0)) [] 4 0
     ∷ []

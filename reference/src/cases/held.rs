@@ -6,7 +6,7 @@ use crate::case::{Case, RecoverCase, ShareCase};
 /// What every number of a lent list is before the call.
 const FILLING: u32 = 99;
 
-/// A call, and what it is for.
+/// A call, and what it is for, which starts with the number that the paper says, and with none where that is 0.
 pub type Held = (&'static str, Case);
 
 pub fn all() -> Vec<Held> {
@@ -46,7 +46,7 @@ fn recover((field, parties, threshold): (u32, u32, u32), row: &[u32], lent: usiz
 fn shares() -> Vec<Held> {
     let small = (0, 3, 1);
     vec![
-        ("share: 5 + 2x", share(small, 5, &[2], 3)),
+        ("share 5 + 2x", share(small, 5, &[2], 3)),
         (
             "p - 1 is a secret and a coefficient",
             share(small, 12, &[12], 3),
@@ -84,7 +84,7 @@ fn shares() -> Vec<Held> {
 fn recoveries() -> Vec<Held> {
     let small = (0, 3, 1);
     vec![
-        ("recover: 5 and 2", recover(small, &[7, 9, 11], 1)),
+        ("recover 5 and 2", recover(small, &[7, 9, 11], 1)),
         ("p - 1 is a share", recover(small, &[12, 12, 12], 1)),
         (
             "the first power's coefficient first",
@@ -140,7 +140,7 @@ const WIDTHS: [(u32, u32); 5] = [(0, 2), (0, 3), (1, 7), (2, 15), (3, 30)];
 
 fn codings() -> Vec<Held> {
     let mut all = vec![
-        ("encode: 2: field 4", encode(4, 3, 0)),
+        ("2: encode, field 4", encode(4, 3, 0)),
         ("2 before 11", encode(4, 1, 9)),
         ("11: k is 0", encode(0, 0, 0)),
         ("11: k is 1", encode(0, 1, 0)),
@@ -166,7 +166,7 @@ fn codings() -> Vec<Held> {
 fn readings() -> Vec<Held> {
     let decode = |field, v| Case::Decode { field, v };
     let mut all = vec![
-        ("decode: 2: field 4", decode(4, 0)),
+        ("2: decode, field 4", decode(4, 0)),
         ("2 before 5", decode(4, u32::MAX)),
     ];
     let mut at = |says, value: fn(u32) -> u32| {
@@ -178,4 +178,19 @@ fn readings() -> Vec<Held> {
     at("p - 1 is -1", |p| p - 1);
     at("5: p", |p| p);
     all
+}
+
+#[cfg(test)]
+mod tests {
+    use super::*;
+    use crate::line::answer;
+    use crate::sheets::held::number_said;
+
+    #[test]
+    fn each_comment_starts_with_the_number_answered() {
+        for (says, case) in all() {
+            let wanted = format!(" : number {} ", number_said(says));
+            assert!(answer(&case).contains(&wanted), "{says}: {}", answer(&case));
+        }
+    }
 }

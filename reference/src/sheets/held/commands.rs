@@ -9,26 +9,31 @@ use crate::sheets::draft::Draft;
 
 const SEED: u64 = 0x5EED_0006;
 
-pub fn all() -> Vec<Held> {
+/// Those that take no mask.
+pub fn plain() -> Vec<Held> {
+    let cases = linear().into_iter().chain(products()).chain(comparisons());
     let mut all = vec![printed()];
-    let cases = linear()
-        .into_iter()
-        .chain(products())
-        .chain(comparisons())
-        .chain(masked());
-    for (index, case) in cases.enumerate() {
-        let Small {
-            says,
-            commands,
-            secrets,
-            masks,
-        } = case;
-        let mut generator = Generator::at(SEED, index as u64);
-        let mut dealer = Dealer::new(&mut generator, 0, (3, 1));
-        let draft = Draft::deal(&mut dealer, &commands, &secrets, &masks);
-        all.push(Held::with_room(says, &draft));
-    }
+    all.extend((0..).zip(cases).map(held));
     all
+}
+
+/// Those that take a mask.
+pub fn masked() -> Vec<Held> {
+    (100..).zip(with_masks()).map(held).collect()
+}
+
+/// A deal drawn for the commands, with buffers that take all they write.
+fn held((index, case): (u64, Small)) -> Held {
+    let Small {
+        says,
+        commands,
+        secrets,
+        masks,
+    } = case;
+    let mut generator = Generator::at(SEED, index);
+    let mut dealer = Dealer::new(&mut generator, 0, (3, 1));
+    let draft = Draft::deal(&mut dealer, &commands, &secrets, &masks);
+    Held::with_room(says, &draft)
 }
 
 /// Commands on inputs of these secrets with masks of these numbers.
@@ -118,7 +123,7 @@ fn linear() -> Vec<Small> {
         ),
         small(
             "REVEAL: each opening to the record, each value to the revealed list",
-            &after_loads(2, &[Reveal { a: 1 }, Reveal { a: 0 }, Reveal { a: 1 }]),
+            &after_loads(2, &[Reveal { a: 1 }, Reveal { a: 0 }, Reveal { a: 0 }]),
             &[11, 4],
             &[],
         ),
@@ -212,8 +217,7 @@ fn comparisons() -> Vec<Small> {
     all
 }
 
-/// The commands that take a mask.
-fn masked() -> Vec<Small> {
+fn with_masks() -> Vec<Small> {
     use Command::*;
     let (d, a, k) = (1, 0, 3);
     let one = |says, command, secret: u32, r: u32| {
@@ -231,12 +235,7 @@ fn masked() -> Vec<Small> {
             10,
             12,
         ),
-        one(
-            "MOD m=2, -1: the openings of f, u0, u1 and g",
-            Mod { d, a, k, m: 2 },
-            12,
-            5,
-        ),
+        one("MOD m=2, -1: 3", Mod { d, a, k, m: 2 }, 12, 5),
         one(
             "MOD m=2, 3, r = 7: C is 1, f is 1",
             Mod { d, a, k, m: 2 },

@@ -8,12 +8,6 @@ use crate::sheets::draft::Draft;
 
 const SEED: u64 = 0x5EED_0007;
 
-pub fn all() -> Vec<Held> {
-    let mut all = linear();
-    all.extend(masked());
-    all
-}
-
 /// A deal drawn for the commands, with buffers that take all they write.
 fn held(
     says: &'static str,
@@ -29,7 +23,7 @@ fn held(
 }
 
 /// Sum, difference, multiple and product of two inputs, and the product revealed.
-fn linear() -> Vec<Held> {
+pub fn linear() -> Vec<Held> {
     use Command::*;
     let run = |says, field, secrets: [u32; 2], v| {
         let commands = [
@@ -54,7 +48,7 @@ fn linear() -> Vec<Held> {
 }
 
 /// Commands that take a mask in field 1.
-fn masked() -> Vec<Held> {
+pub fn masked() -> Vec<Held> {
     let run = |says, parties, command, secret, r| {
         let commands = [Command::Load { d: 0 }, command, Command::Reveal { a: 1 }];
         held(says, (1, parties), &commands, &[secret], &[r])

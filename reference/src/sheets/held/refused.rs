@@ -5,12 +5,12 @@ use super::Held;
 pub fn all() -> Vec<Held> {
     let mut all = headers();
     all.extend(parties());
-    all.extend(limits());
     all.extend(lengths());
     all.extend(shares());
     all.extend(rows());
     all.extend(masks());
     all.extend(triples());
+    all.extend(limits());
     all
 }
 
@@ -40,7 +40,7 @@ fn headers() -> Vec<Held> {
         none("1: ten bytes", &[0, 3, 1, 0, 0, 0, 0, 0, 0, 0]),
         none("1 before 2", &[4, 3, 1, 0, 0, 0, 0, 0, 0, 0]),
         none(
-            "eleven bytes are not refused with 1",
+            "10: eleven bytes, an empty script",
             &[0, 3, 1, 0, 0, 0, 0, 0, 0, 0, 0],
         ),
         none("2: field 4", &[4, 3, 1, 0, 0, 0, 0, 0, 0, 1, 0, 0]),
@@ -77,33 +77,6 @@ fn parties() -> Vec<Held> {
         &[],
     ));
     all
-}
-
-/// Each count at its limit and one over it. A sheet of 512 triples is let through to 5, and a script of 1,024 bytes to 9.
-fn limits() -> Vec<Held> {
-    let small = |says, counts, shares: usize| small(says, counts, &vec![0; shares]);
-    let triples = |says, count: u16, first| {
-        let [low, high] = count.to_le_bytes();
-        let mut shares = vec![0; 9 * usize::from(count)];
-        shares[0] = first;
-        held(says, &[0, 3, 1, 0, 0, 0, 0, low, high, 1, 0], &[0], &shares)
-    };
-    let script = |says, length: u16| {
-        let [low, high] = length.to_le_bytes();
-        let mut script = vec![0; usize::from(length)];
-        script[0] = 14;
-        held(says, &[0, 3, 1, 0, 0, 0, 0, 0, 0, low, high], &script, &[])
-    };
-    vec![
-        small("64 input rows", (64, 0, 0), 192),
-        small("4: 65 input rows", (65, 0, 0), 195),
-        small("16 masks", (0, 16, 0), 192),
-        small("4: 17 masks", (0, 17, 0), 204),
-        triples("512 triples, refused with 5 for the first share", 512, 13),
-        triples("4: 513 triples", 513, 13),
-        script("1,024 bytes of script, refused with 9", 1024),
-        script("4: 1,025 bytes of script", 1025),
-    ]
 }
 
 /// The length that the header implies, a byte less and a byte more, and the four counts' second bytes.
@@ -281,5 +254,32 @@ fn triples() -> Vec<Held> {
         script("8 before 9", &[14]),
         script("8 before 10", &[]),
         script("8 before 11", &[1, 64, 0]),
+    ]
+}
+
+/// Each count at its limit and one over it. A sheet of 512 triples is let through to 5, and a script of 1,024 bytes to 9.
+fn limits() -> Vec<Held> {
+    let small = |says, counts, shares: usize| small(says, counts, &vec![0; shares]);
+    let triples = |says, count: u16, first| {
+        let [low, high] = count.to_le_bytes();
+        let mut shares = vec![0; 9 * usize::from(count)];
+        shares[0] = first;
+        held(says, &[0, 3, 1, 0, 0, 0, 0, low, high, 1, 0], &[0], &shares)
+    };
+    let script = |says, length: u16| {
+        let [low, high] = length.to_le_bytes();
+        let mut script = vec![0; usize::from(length)];
+        script[0] = 14;
+        held(says, &[0, 3, 1, 0, 0, 0, 0, 0, 0, low, high], &script, &[])
+    };
+    vec![
+        small("64 input rows", (64, 0, 0), 192),
+        small("4: 65 input rows", (65, 0, 0), 195),
+        small("16 masks", (0, 16, 0), 192),
+        small("4: 17 masks", (0, 17, 0), 204),
+        triples("5: 512 triples, the first share is 13", 512, 13),
+        triples("4: 513 triples", 513, 13),
+        script("9: 1,024 bytes of script, the first is 0E", 1024),
+        script("4: 1,025 bytes of script", 1025),
     ]
 }

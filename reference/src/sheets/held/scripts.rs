@@ -107,23 +107,18 @@ fn sizes() -> Vec<Held> {
 fn first_of_two() -> Vec<Held> {
     vec![
         held("10 before 11: ADD 64 0, cut off", 0, &[1, 0, 3, 64, 0]),
-        held(
-            "command by command: 11 stands before 9",
-            0,
-            &[1, 0, 1, 64, 14, 0],
-        ),
-        held("9 stands before 11", 0, &[1, 0, 14, 1, 64, 0]),
-        held("11 stands before a missing END", 0, &[1, 0, 1, 64]),
-        held("11 stands before bytes after END", 0, &[1, 0, 1, 64, 0, 0]),
-        held("11 stands before operands cut off", 0, &[1, 0, 1, 64, 6, 0]),
+        held("11 before 9, command by command", 0, &[1, 0, 1, 64, 14, 0]),
+        held("9 before 11, command by command", 0, &[1, 0, 14, 1, 64, 0]),
+        held("11 before a missing END", 0, &[1, 0, 1, 64]),
+        held("11 before bytes after END", 0, &[1, 0, 1, 64, 0, 0]),
+        held("11 before operands cut off", 0, &[1, 0, 1, 64, 6, 0]),
     ]
 }
 
-/// Each register operand at 63 and at 64.
+/// Each register operand at 63 and at 64. CONST 63 is run in another table.
 fn registers() -> Vec<Held> {
     use Command::*;
     let (k, m, v) = (3, 1, 4);
-    let one = |d| vec![Load { d }, Reveal { a: d }, Const { d, v }];
     let two = |(d, a)| {
         [
             Scale { d, a, v },
@@ -135,18 +130,17 @@ fn registers() -> Vec<Held> {
         ]
     };
     let three = |(d, a, b)| [Add { d, a, b }, Sub { d, a, b }, Mul { d, a, b }];
-    let good = one(63).into_iter().filter(|c| !matches!(c, Const { .. }));
+    let good = [Reveal { a: 63 }].into_iter();
     let good = good.chain(two((63, 63))).chain(three((63, 63, 63)));
-    let bad = one(64).into_iter();
-    let bad = bad.chain([(64, 0), (0, 64)].into_iter().flat_map(two));
-    let bad = bad.chain(
-        [(64, 0, 0), (0, 64, 0), (0, 0, 64)]
-            .into_iter()
-            .flat_map(three),
-    );
-    let good = good.map(|command| alone("registers to 63", 0, command));
-    let bad = bad.map(|command| after_load("11: register 64", 0, command));
-    good.chain(bad).collect()
+    let ones = [Load { d: 64 }, Const { d: 64, v }, Reveal { a: 64 }];
+    let twos = [(64, 0), (0, 64)].into_iter().flat_map(two);
+    let threes = [(64, 0, 0), (0, 64, 0), (0, 0, 64)];
+    let bad = ones.into_iter().chain(twos);
+    let bad = bad.chain(threes.into_iter().flat_map(three));
+    let mut all = vec![alone("22: register 63 is let through", 0, Load { d: 63 })];
+    all.extend(good.map(|command| alone("21: register 63 is let through", 0, command)));
+    all.extend(bad.map(|command| after_load("11: register 64", 0, command)));
+    all
 }
 
 /// k from 2 to the field's largest, m from 1 to k - 1.
@@ -167,7 +161,13 @@ fn widths() -> Vec<Held> {
     let bad_k = bad_k.chain([(1, 1), (4, 1)].into_iter().flat_map(with_m));
     let bad_m = [(2, 0), (3, 3)].into_iter().flat_map(with_m);
     let mut all: Vec<Held> = good
-        .map(|command| alone("k to 3, m to k - 1", 0, command))
+        .map(|command| {
+            alone(
+                "21: k from 2 to 3, m from 1 to k - 1 are let through",
+                0,
+                command,
+            )
+        })
         .collect();
     all.extend(bad_k.map(|command| after_load("11: k is not from 2 to 3", 0, command)));
     all.extend(bad_m.map(|command| after_load("11: m is not from 1 to k - 1", 0, command)));
@@ -175,7 +175,7 @@ fn widths() -> Vec<Held> {
         let largest = field.largest_k as u8;
         let command = |k, m| Mod { d, a, k, m };
         all.push(alone(
-            "the field's largest k",
+            "21: the field's largest k",
             number,
             command(largest, largest - 1),
         ));
@@ -190,14 +190,14 @@ fn values() -> Vec<Held> {
     let (d, a, k) = (0, 0, 2);
     let with = |v| [Const { d, v }, Scale { d, a, v }, Over { d, a, k, v }];
     let mut all = vec![
-        alone("v to p - 1", 0, Scale { d, a, v: 12 }),
-        alone("v to p - 1", 0, Over { d, a, k, v: 12 }),
+        alone("21: v to p - 1", 0, Scale { d, a, v: 12 }),
+        alone("21: v to p - 1", 0, Over { d, a, k, v: 12 }),
     ];
     all.extend(with(13).map(|command| after_load("11: v is p", 0, command)));
     all.extend(with(1 << 24).map(|command| after_load("11: v has four bytes", 0, command)));
     for (number, field) in (1..).zip(&FIELDS[1..]) {
         let p = field.modulus;
-        all.push(alone("v to p - 1", number, Scale { d, a, v: p - 1 }));
+        all.push(alone("21: v to p - 1", number, Scale { d, a, v: p - 1 }));
         all.push(after_load("11: v is p", number, Scale { d, a, v: p }));
     }
     all
@@ -225,7 +225,7 @@ fn comparisons() -> Vec<Held> {
     ];
     let good = good.map(|(d, b, w, v)| {
         alone(
-            "w from 1 to 31, b + w to 64, v to 2^w - 1",
+            "21: w from 1 to 31, b + w to 64, v to 2^w - 1",
             0,
             bitlt(d, b, w, v),
         )
@@ -233,6 +233,6 @@ fn comparisons() -> Vec<Held> {
     let bad = bad.map(|(says, (d, b, w, v))| after_load(says, 0, bitlt(d, b, w, v)));
     good.into_iter()
         .chain(bad)
-        .chain([alone("v is not held to p", 0, bitlt(0, 0, 4, 15))])
+        .chain([alone("21: v is not held to p", 0, bitlt(0, 0, 4, 15))])
         .collect()
 }
