@@ -10,12 +10,12 @@ use Rattle.algebra.specs.Lists.{sameList}
 use Rattle.model.specs.Entries.{shareNumber, shareLeft, recoverNumber, recoverValue, recoverLeft, encodeNumber, encodeValue, decodeNumber, decodeValue}
 use Rattle.model.specs.Steps.{Row}
 use Rattle.model.specs.Sheet.{shareBytes}
-use Rattle.model.specs.Run.{Outcome, run, noRow}
+use Rattle.model.specs.Run.{Outcome, run}
 
 -- a register that is set, its number before its cells; one that is unset is left out where its cells are 0
 abbrev pub oneSeen : ℕ → Bool → Row → List (List ℕ)
 oneSeen r true x = (r ∷ x) ∷ []
-oneSeen r false x = cond (sameList x noRow) [] (x ∷ [])
+oneSeen r false x = cond (sameList x (replicate 7 0)) [] (x ∷ [])
 
 unfoldable pub registersSeen : ℕ → List Bool → List Row → List (List ℕ)
 registersSeen r [] rows = []
