@@ -11,7 +11,7 @@ use lib.ListN.{length, getD, set}
 use lib.Signed.{ltZ}
 use Rattle.algebra.specs.Ring.{add, sub, mul}
 use Rattle.algebra.specs.Lists.{allBelow}
-use Rattle.model.specs.Fields.{inversePowerOf2}
+use Rattle.model.specs.Fields.{modulus, largestK, inversePowerOf2}
 use Rattle.model.specs.Coding.{inRange, code, readBack}
 use Rattle.model.specs.Steps.{odd}
 use Rattle.model.specs.Script.{Command, END, LOAD, CONST, ADD, SUB, SCALE, MUL, MOD, TRUNC, LTZ, OVER, BLOCKS, REVEAL, BITLT}
@@ -105,3 +105,7 @@ pub record Exact (p K : ℕ) : Type 0 where
   pub finished : (k m x : ℕ) → 2 ≤ k → k ≤ K → 1 ≤ m → m < k → x < 2 ^ (k - 1) → charged p k m x ≡ x / 2 ^ m
   -- BITLT of bits, for every number of them: 1 if v is below the number they spell, else 0
   pub compares : (v : ℕ) (bs : List ℕ) → 1 ≤ length bs → T (allBelow 2 bs) → v < 2 ^ length bs → less p v bs ≡ one (ltb v (spell bs))
+
+-- for every field of the table
+abbrev pub EveryFormula : Type 0
+EveryFormula = (f : ℕ) → f < 4 → Exact (modulus f) (largestK f)
