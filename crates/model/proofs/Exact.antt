@@ -22,7 +22,7 @@ in-magnitude : (k : ℕ) (a : ℤ) → T (inRange k a) → mag a < 2 ^ (k - 1)
 in-magnitude k a t = ltb→lt (mag a) (2 ^ (k - 1)) (rw in-range at t)
 
 module _ {p l K : ℕ} (F : Field p l K) where
-  twice-fits : (k : ℕ) → 1 ≤ k → k ≤ K → 2 ^ (k - 1) + 2 ^ (k - 1) < p
+  pub twice-fits : (k : ℕ) → 1 ≤ k → k ≤ K → 2 ^ (k - 1) + 2 ^ (k - 1) < p
   twice-fits k h m = let fits : 2 ^ suc (k - 1) ≤ 2 ^ K = pow-mono (omega arith) in omega (arith, pow-suc 2 (k - 1))
 
   module _ (k m : ℕ) (a : ℤ) (hk : k ≤ K) (hm : m < k) (r : mag a < 2 ^ (k - 1)) where

@@ -77,6 +77,23 @@ plainly p input j (BLOCKS d a k m) vs = set vs d (charged p k m (getD vs a 0))
 plainly p input j (REVEAL a) vs = vs
 plainly p input j (BITLT d b w v) vs = set vs d (less p v (valuesFrom vs b w))
 
+-- "REVEAL one opening, and its value goes to the revealed list": the values that a command puts there
+unfoldable pub reveals : Command → List ℕ → List ℕ
+reveals END vs = []
+reveals (LOAD d) vs = []
+reveals (CONST d v) vs = []
+reveals (ADD d a b) vs = []
+reveals (SUB d a b) vs = []
+reveals (SCALE d a v) vs = []
+reveals (MUL d a b) vs = []
+reveals (MOD d a k m) vs = []
+reveals (TRUNC d a k m) vs = []
+reveals (LTZ d a k) vs = []
+reveals (OVER d a k v) vs = []
+reveals (BLOCKS d a k m) vs = []
+reveals (REVEAL a) vs = getD vs a 0 ∷ []
+reveals (BITLT d b w v) vs = []
+
 -- In ℤ: z divided by M is q with the remainder r. This fixes both: q is z / M rounded down, and −3/2 is −2.
 pub record Division (z : ℤ) (M : ℕ) (q : ℤ) (r : ℕ) : Type 0 where
   pub is : z ≡ q *ℤ pos M +ℤ pos r
