@@ -104,6 +104,7 @@ module _ {S : Setting} {K : ℕ} {u : Supply} {input : List Row} {d : Deal} (G :
       let H = q .holds .held in
       record {
         registers = H .registers-64;
+        marks = H .marks-64;
         values = H .values-64;
         sharing = λ r m. H .shared r m .sharing;
         secret-is = λ r m. H .shared r m .is;

@@ -36,3 +36,4 @@ pub mod Veiling
 pub mod Veil
 pub mod MadeSheets
 pub mod Secrecy
+pub mod RealRuns

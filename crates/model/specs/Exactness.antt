@@ -39,6 +39,7 @@ pub data Passes (S : Setting) (u : Supply) (input : List Row) (d : Deal) (xs : L
 -- of an unset register are 0". "A sheet's revealed values are the secrets read by the REVEALs that finish when it is run, in order."
 pub record Right (S : Setting) (s : State) (vs ws : List ℕ) : Type 0 where
   pub registers : length (s .registers) ≡ 64
+  pub marks : length (s .spent .marks) ≡ 64
   pub values : length vs ≡ 64
   pub sharing : (r : ℕ) → getD (s .spent .marks) r false ≡ true → Sharing (S .p) (S .n) (S .t) (getD (s .registers) r noRow)
   pub secret-is : (r : ℕ) → getD (s .spent .marks) r false ≡ true → secret (S .p) (S .t) (getD (s .registers) r noRow) ≡ getD vs r 0

@@ -14,3 +14,4 @@ pub mod Making
 pub mod Results
 pub mod Exactness
 pub mod Secrecy
+pub mod RealRuns
