@@ -9,7 +9,7 @@ use outcome::outcome;
 use sharing::rows;
 
 fn main() {
-    let mut input = [0u8; 400000];
+    let mut input = [0u8; 600000];
     let got = io::read_full(0, &mut input);
     run_cases(&input[..got]);
 }

@@ -49,30 +49,31 @@ fn register(table: Table, r: usize)
     list_line(b"", &shares[..]);
 }
 
-// 1 for a cell that is not 0, of a register that is not set.
-fn stray(set: bool, cell: u32) -> usize
+// 1 for a cell that is 0, of a register that is not set.
+fn blank(set: bool, cell: u32) -> usize
     ensures { λ r. ⌜ r ≤ 1 ⌝ }
 {
     if set {
         0
     } else if cell == 0 {
-        0
-    } else {
         1
+    } else {
+        0
     }
 }
 
-fn strays(table: Table) -> usize {
+// "the cells of an unset register are 0": seven for each, so the number shows that every cell was looked at.
+fn blanks(table: Table) -> usize {
     let mut found = 0;
     let mut i = 0;
     while i < 448 {
-        found += stray(table.marks[i / 7], table.cells[i]);
+        found += blank(table.marks[i / 7], table.cells[i]);
         i += 1;
     }
     found
 }
 
 fn rest(table: Table) {
-    count(b"rest ", strays(table));
+    count(b"rest ", blanks(table));
     line_end();
 }

@@ -1,9 +1,9 @@
--- `outcome::strays` is safe and ends: at most one is counted for each cell.
+-- `outcome::blanks` is safe and ends: at most one is counted for each cell.
 -- Assumes nothing.
 use Prim.Native.Nat.{_-_, _≤_}
 use borrow.Author.Needs.{needs}
-use Rattle.cases.proofs.outcome.strays.Statement.{statement}
-use Rattle.cases.proofs.outcome.strays.Tie as tie
+use Rattle.cases.proofs.outcome.blanks.Statement.{statement}
+use Rattle.cases.proofs.outcome.blanks.Tie as tie
 
 abbrev Inv-loop : tie.InvT-loop
 Inv-loop table found₀ i₀ found i = (found ≤ i) × (i ≤ 448)
@@ -14,17 +14,17 @@ abbrev μ-loop : tie.MeasureT-loop
 loop-holds : tie.Need-loop-holds Inv-loop μ-loop
 loop-holds c = search needs
 
-element-copy-out-stray : tie.Need-element-copy-out-stray Inv-loop μ-loop
-element-copy-out-stray c = search needs
+element-copy-out-blank : tie.Need-element-copy-out-blank Inv-loop μ-loop
+element-copy-out-blank c = search needs
 
-mul-stray : tie.Need-mul-stray Inv-loop μ-loop
-mul-stray c = search needs
+mul-blank : tie.Need-mul-blank Inv-loop μ-loop
+mul-blank c = search needs
 
-element-copy-out-stray-2 : tie.Need-element-copy-out-stray-2 Inv-loop μ-loop
-element-copy-out-stray-2 c = search needs
+element-copy-out-blank-2 : tie.Need-element-copy-out-blank-2 Inv-loop μ-loop
+element-copy-out-blank-2 c = search needs
 
-stray-requires : tie.Need-stray-requires Inv-loop μ-loop
-stray-requires c κs = search needs
+blank-requires : tie.Need-blank-requires Inv-loop μ-loop
+blank-requires c κs = search needs
 
 add-found : tie.Need-add-found Inv-loop μ-loop
 add-found c = search needs
@@ -41,17 +41,17 @@ loop-again c = search needs
 returns : tie.Need-returns Inv-loop μ-loop
 returns c = search needs
 
-pub strays-spec : {M : Type 1} → statement M
-strays-spec =
+pub blanks-spec : {M : Type 1} → statement M
+blanks-spec =
     tie.close
     (tie.spec
     Inv-loop
     μ-loop
     loop-holds
-    element-copy-out-stray
-    mul-stray
-    element-copy-out-stray-2
-    stray-requires
+    element-copy-out-blank
+    mul-blank
+    element-copy-out-blank-2
+    blank-requires
     add-found
     add-i
     loop-less
