@@ -16,11 +16,12 @@ use Rattle.model.specs.Plain.{plainly, reveals}
 use Rattle.model.specs.Results.{Does}
 use Rattle.model.specs.Exactness.{Passes, begins, goes, Right, sumOf, Counted, at-end, at-line, Stopped, Exactness}
 use Rattle.model.proofs.Written.{length-written}
+use Rattle.model.proofs.Sharings.{length-sharing}
 use Rattle.model.proofs.Held.{Holds, holds-start, Passed, check-passed}
 use Rattle.model.proofs.Running.{Given, finish-holds}
 use Rattle.model.proofs.Balance.{Balanced, balanced-start, balanced-more}
 use Rattle.model.proofs.Performed.{reveals-more, leaves}
-use Rattle.model.proofs.Acceptance.{sound, given, InRange, lines-ok}
+use Rattle.model.proofs.Acceptance.{sound, all-map, given, InRange, lines-ok}
 
 all-head : {A : Type 0} {P : A → Type 0} {x : A} {xs : List A} → All P (x ∷ xs) → P x
 all-head (one p ps) = p
@@ -109,6 +110,7 @@ module _ {S : Setting} {K : ℕ} {u : Supply} {input : List Row} {d : Deal} (G :
         sharing = λ r m. H .shared r m .sharing;
         secret-is = λ r m. H .shared r m .is;
         unset = H .unset;
+        opened = q .holds .rows;
         shown = q .shown;
       }
 
@@ -127,7 +129,7 @@ module _ {S : Setting} {K : ℕ} {u : Supply} {input : List Row} {d : Deal} (G :
         masks-left = q .holds .used .masks;
         triples-left = q .holds .used .triples;
         opened = q .holds .opens;
-        numbers = length-written (S .n) (G .parties .most) (q .holds .rows) ∙ ap (λ (o : ℕ). S .n * o) (q .holds .opens);
+        numbers = length-written (S .n) (G .parties .most) (all-map (λ x. length-sharing (G .field .modulus-is) (G .parties)) (q .holds .rows)) ∙ ap (λ (o : ℕ). S .n * o) (q .holds .opens);
         shown = q .holds .shows;
       }
 

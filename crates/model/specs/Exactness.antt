@@ -1,14 +1,15 @@
 -- Demand 2, about the states that runs of whole scripts on accepted sheets pass through: "After each command the shared secret equals the exact
 -- floor, remainder or comparison, as Catrina and de Hoogh define them, wherever the number lies in its k-bit signed range, and the paper's
--- formula elsewhere. Each opened share is the one that the paper's steps give. Deal spent and openings made equal the paper's counts." What the
--- formulas are in the range is in Plain.antt, `Exact`; the opened shares are those of Steps.antt, by `finish` in Run.antt. The demand's other
--- sentence, "Sharing and reconstruction are Shamir's, each undoing the other.", is in Shamir.antt.
+-- formula elsewhere. Each opened share is the one that the paper's steps give. Deal spent and openings made equal the paper's counts." What each
+-- command leaves is in Results.antt; the opened shares are those of Steps.antt, by `finish` in Run.antt. The demand's other sentence, "Sharing and
+-- reconstruction are Shamir's, each undoing the other.", is in Shamir.antt.
 -- Assumes nothing.
 use mathlib.Core.Path.{_≡_}
 use mathlib.Core.Bool.{true, false}
 use mathlib.Core.List.{List, [], _∷_, _++_, List·Memᴰ as In}
 use Prim.Native.Nat.{ℕ, _+_, _*_}
 use lib.ListN.{length, getD, drop, replicate}
+use Rattle.algebra.specs.Lists.{All}
 use Rattle.model.specs.Fields.{largestK}
 use Rattle.model.specs.Sharing.{Sharing, secret}
 use Rattle.model.specs.Steps.{Setting, Row, Deal}
@@ -44,6 +45,8 @@ pub record Right (S : Setting) (s : State) (vs ws : List ℕ) : Type 0 where
   pub sharing : (r : ℕ) → getD (s .spent .marks) r false ≡ true → Sharing (S .p) (S .n) (S .t) (getD (s .registers) r noRow)
   pub secret-is : (r : ℕ) → getD (s .spent .marks) r false ≡ true → secret (S .p) (S .t) (getD (s .registers) r noRow) ≡ getD vs r 0
   pub unset : (r : ℕ) → getD (s .spent .marks) r false ≡ false → getD (s .registers) r noRow ≡ noRow
+  -- "Opening: the n shares go to the record": every row opened so far is a sharing
+  pub opened : All (Sharing (S .p) (S .n) (S .t)) (s .opened)
   pub shown : s .shown ≡ ws
 
 -- the sum of what finished commands spend of one kind
