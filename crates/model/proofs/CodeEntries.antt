@@ -1,6 +1,6 @@
 -- Encode and decode undo each other as entries.
 -- Assumes nothing.
-use mathlib.Core.Path.{_≡_, refl, sym, ap, _∙_}
+use mathlib.Core.Path.{_≡_, refl, _∙_}
 use mathlib.Core.Bool.{_&&_}
 use Prim.Native.Nat.{ℕ, _≤_, _<_}
 use native.Mathlib.Omega.{arith}
@@ -9,9 +9,9 @@ use lib.IntN.{ℤ}
 use Rattle.algebra.proofs.Tests.{and-left, and-right, and-both}
 use Rattle.model.specs.Fields.{modulus, largestK}
 use Rattle.model.specs.Coding.{inRange, code, readBack}
-use Rattle.model.specs.Refusing.{tried, given}
+use Rattle.model.specs.Refusing.{given}
 use Rattle.model.specs.Entries.{encodeNumber, encodeValue, decodeNumber, decodeValue}
-use Rattle.model.specs.Shamir.{CodeEntries, EveryCodeEntry}
+use Rattle.model.specs.Shamir.{EveryCodeEntry}
 use Rattle.model.proofs.Coding.{every-coding}
 use Rattle.model.proofs.Entries.{passed, pass}
 

@@ -25,7 +25,7 @@ pub mod Making
 pub mod Acceptance
 pub mod Written
 pub mod Balance
-pub mod Results
+pub mod Formulas
 pub mod Performed
 pub mod Exactness
 pub mod Tied

@@ -53,7 +53,7 @@ mask-length : {S : Setting} {r : List Row} → MaskOk S r → length r ≡ S .l
 mask-length {S} {r} N = sym (length-secrets S r) ∙ N .masking .count
 
 -- the registers that a command reads are set
-pub set-first : (marks : List Bool) (r : ℕ) (rs : List ℕ) → T (allSet marks (r ∷ rs)) → getD marks r false ≡ true
+set-first : (marks : List Bool) (r : ℕ) (rs : List ℕ) → T (allSet marks (r ∷ rs)) → getD marks r false ≡ true
 unfolding allSet
 set-first marks r rs t = is-true _ (and-left (getD marks r false) (allSet marks rs) t)
 

@@ -6,7 +6,7 @@
 -- Assumes nothing.
 use mathlib.Core.Path.{_≡_}
 use mathlib.Core.Bool.{true, false}
-use mathlib.Core.List.{List, [], _∷_, _++_, List·Memᴰ as In}
+use mathlib.Core.List.{List, [], _∷_, _++_}
 use Prim.Native.Nat.{ℕ, _+_, _*_}
 use lib.ListN.{length, getD, drop, replicate}
 use Rattle.algebra.specs.Lists.{All}
@@ -40,9 +40,9 @@ pub data Passes (S : Setting) (u : Supply) (input : List Row) (d : Deal) (xs : L
 -- "After each command the shared secret equals": every set register is a sharing, and its secret is the plain interpreter's value. "the cells
 -- of an unset register are 0". "A sheet's revealed values are the secrets read by the REVEALs that finish when it is run, in order."
 pub record Right (S : Setting) (s : State) (vs ws : List ℕ) : Type 0 where
-  pub registers : length (s .registers) ≡ 64
-  pub marks : length (s .spent .marks) ≡ 64
-  pub values : length vs ≡ 64
+  pub registers-64 : length (s .registers) ≡ 64
+  pub marks-64 : length (s .spent .marks) ≡ 64
+  pub values-64 : length vs ≡ 64
   pub sharing : (r : ℕ) → getD (s .spent .marks) r false ≡ true → Sharing (S .p) (S .n) (S .t) (getD (s .registers) r noRow)
   pub secret-is : (r : ℕ) → getD (s .spent .marks) r false ≡ true → secret (S .p) (S .t) (getD (s .registers) r noRow) ≡ getD vs r 0
   pub unset : (r : ℕ) → getD (s .spent .marks) r false ≡ false → getD (s .registers) r noRow ≡ noRow
@@ -81,22 +81,18 @@ pub data Stops (S : Setting) (u : Supply) (end : ℕ) (x : Stop) : List Line →
 -- "a refused one ends the run": the stop's state is one that the run passes through, and the lines left there say how it stops
 pub record Stopped (S : Setting) (u : Supply) (input : List Row) (d : Deal) (xs : List Line) (end : ℕ) (x : Stop) : Type 0 where
   pub left : List Line
-  pub values : List ℕ
+  pub plain : List ℕ
   pub revealed : List ℕ
-  pub passes : Passes S u input d xs left (x .state) values revealed
+  pub passes : Passes S u input d xs left (x .state) plain revealed
   pub stops : Stops S u end x left
 
 -- The claim, for the run of the lines xs on the input and the deal d, which ends in the stop x. K is the field's largest k.
 pub record Exactly (S : Setting) (K : ℕ) (u : Supply) (input : List Row) (d : Deal) (xs : List Line) (end : ℕ) (x : Stop) : Type 0 where
-  -- the next command that the checks let through leaves the exact result
+  -- the next command that the checks let through leaves the exact result, and every other register as it was
   pub does : (y : Line) (ys : List Line) (s : State) (vs ws : List ℕ) → Passes S u input d xs (y ∷ ys) s vs ws
       → check u (cost (S .l) (y .command)) (s .spent) ≡ 0 → Does S K input (y .command) s (finish S input (y .command) s)
   pub right : (ys : List Line) (s : State) (vs ws : List ℕ) → Passes S u input d xs ys s vs ws → Right S s vs ws
   pub counted : (ys : List Line) (s : State) (vs ws : List ℕ) → Passes S u input d xs ys s vs ws → Counted S d xs ys s
-  -- a register that a command does not write keeps its row
-  pub keeps : (y : Line) (ys : List Line) (s : State) (vs ws : List ℕ) → Passes S u input d xs (y ∷ ys) s vs ws
-      → (r : ℕ) → (In r (cost (S .l) (y .command) .writes) → ⊥)
-      → getD (finish S input (y .command) s .registers) r noRow ≡ getD (s .registers) r noRow
   -- the run's stop is one of these states
   pub stops : Stopped S u input d xs end x
 

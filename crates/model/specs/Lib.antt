@@ -11,6 +11,7 @@ pub mod Steps
 pub mod Costs
 pub mod Run
 pub mod Plain
+pub mod Formulas
 pub mod Shamir
 pub mod Making
 pub mod Results
