@@ -23,6 +23,9 @@ pub mod SheetDeal
 pub mod Making
 pub mod Acceptance
 pub mod Written
+pub mod Balance
+pub mod Results
+pub mod Performed
 pub mod Exactness
 pub mod Tied
 pub mod Trees
@@ -33,3 +36,4 @@ pub mod Veiling
 pub mod Veil
 pub mod MadeSheets
 pub mod Secrecy
+pub mod RealRuns

@@ -11,5 +11,7 @@ pub mod Run
 pub mod Plain
 pub mod Shamir
 pub mod Making
+pub mod Results
 pub mod Exactness
 pub mod Secrecy
+pub mod RealRuns
