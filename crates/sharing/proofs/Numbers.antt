@@ -20,7 +20,7 @@ use Rattle.model.proofs.Entries.{Fit, fitted-passed, fitted-pass, fitted-early}
 pub fit : (f n t a i b j : ℕ) {r : ℕ} → r ≡ fitted f n t (eqb a i && eqb b j) 0 → r ≡ 0 → Fit f n t a i b j
 fit f n t a i b j e z = fitted-passed f n t a i b j 0 (sym e ∙ z) .0
 
--- and so they were where share answers neither of them, whatever it refuses after them
+-- and so they were where share answers none of them, whatever it refuses after them
 pub share-fits : (f n t s : ℕ) (cs out : List ℕ) {r : ℕ} → r ≡ shareNumber f n t s cs out → (2 ≤ r → 4 < r) → Fit f n t (length cs) t (length out) n
 unfolding shareNumber
 share-fits f n t s cs out {r} e k =
