@@ -6,6 +6,7 @@ pub mod Weights
 pub mod Extrapolation
 pub mod Coefficients
 pub mod Entries
+pub mod CodeEntries
 pub mod Shamir
 pub mod Bits
 pub mod Comparing

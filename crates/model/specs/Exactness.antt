@@ -12,11 +12,12 @@ use lib.ListN.{length, getD, drop, replicate}
 use Rattle.algebra.specs.Lists.{All}
 use Rattle.model.specs.Fields.{largestK}
 use Rattle.model.specs.Sharing.{Sharing, secret}
-use Rattle.model.specs.Steps.{Setting, Row, Deal}
+use Rattle.model.specs.Deal.{Setting, Row, Deal, noRow}
+use Rattle.model.specs.Steps.{written}
 use Rattle.model.specs.Script.{Line, accepted}
 use Rattle.model.specs.Costs.{Cost, cost}
 use Rattle.model.specs.Sheet.{headerOf, settingOf, inputIn, dealIn, secrets, sheetNumber}
-use Rattle.model.specs.Run.{Supply, State, Stop, noRow, check, finish, start, written, supplyOf, sheetScript, stopOf, run}
+use Rattle.model.specs.Run.{Supply, State, Stop, check, finish, start, supplyOf, sheetScript, stopOf, run}
 use Rattle.model.specs.Plain.{plainly, reveals}
 use Rattle.model.specs.Results.{Does}
 

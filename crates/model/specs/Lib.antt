@@ -1,8 +1,10 @@
 pub mod Fields
 pub mod Sharing
 pub mod Coding
+pub mod Refusing
 pub mod Entries
 pub mod Bytes
+pub mod Deal
 pub mod Sheet
 pub mod Script
 pub mod Steps

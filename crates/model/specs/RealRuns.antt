@@ -5,7 +5,7 @@ use mathlib.Core.Path.{_≡_}
 use mathlib.Core.List.{List}
 use Prim.Native.Nat.{ℕ}
 use Rattle.algebra.specs.Lists.{Below}
-use Rattle.model.specs.Steps.{Deal}
+use Rattle.model.specs.Deal.{Deal}
 use Rattle.model.specs.Sheet.{headerOf, scriptIn, inputIn, dealIn}
 use Rattle.model.specs.Making.{Says}
 use Rattle.model.specs.Exactness.{Accepted}

@@ -14,10 +14,10 @@ use Rattle.algebra.specs.Lists.{from, allBelow}
 use Rattle.algebra.specs.Rows.{row}
 use Rattle.model.specs.Coding.{inRange, readBack}
 use Rattle.model.specs.Sharing.{secret}
-use Rattle.model.specs.Steps.{Setting, Row}
+use Rattle.model.specs.Deal.{Setting, Row, noRow}
 use Rattle.model.specs.Script.{Command, END, LOAD, CONST, ADD, SUB, SCALE, MUL, MOD, TRUNC, LTZ, OVER, BLOCKS, REVEAL, BITLT, inRanges}
 use Rattle.model.specs.Sheet.{spell}
-use Rattle.model.specs.Run.{State, noRow, register}
+use Rattle.model.specs.Run.{State, register}
 use Rattle.model.specs.Plain.{Division, one, less}
 
 -- the secret in register r

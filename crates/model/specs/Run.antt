@@ -7,15 +7,14 @@ use lib.Dec.{leb}
 use lib.ListN.{length, getD, set, take, replicate}
 use Rattle.algebra.specs.Lists as Lists
 use Rattle.model.specs.Fields.{largestK}
-use Rattle.model.specs.Entries.{tried}
-use Rattle.model.specs.Steps.{Setting, Row, Deal, Step, plus, minus, times, constant, value, product, comparison, remainder, floor, sign, over, blocks}
+use Rattle.model.specs.Refusing.{tried}
+use Rattle.model.specs.Deal.{Setting, Row, Deal}
+pub use Rattle.model.specs.Deal.{noRow}
+use Rattle.model.specs.Steps.{Step, plus, minus, times, constant, value, product, comparison, remainder, floor, sign, over, blocks}
+unfoldable pub use Rattle.model.specs.Steps.{written}
 use Rattle.model.specs.Script.{Command, END, LOAD, CONST, ADD, SUB, SCALE, MUL, MOD, TRUNC, LTZ, OVER, BLOCKS, REVEAL, BITLT, Line, Script, accepted, refused, scriptOf}
 use Rattle.model.specs.Costs.{Cost, cost}
 use Rattle.model.specs.Sheet.{Header, headerOf, settingOf, scriptIn, inputIn, dealIn, sheetNumber}
-
--- "A table of 64 registers by n columns", each a row; "the cells of an unset register are 0": this row
-abbrev pub noRow : Row
-noRow = 0 ∷ 0 ∷ 0 ∷ 0 ∷ 0 ∷ 0 ∷ 0 ∷ []
 
 -- What was spent and which registers are set: all that the checks look at.
 pub record Spent : Type 0 where
@@ -168,11 +167,6 @@ pub record Outcome : Type 0 where
   pub marks : List Bool
   pub log : List ℕ
   pub revealed : List ℕ
-
--- "Opening: the n shares go to the record, party 1 first": the record's numbers, opening by opening
-unfoldable pub written : ℕ → List Row → List ℕ
-written n [] = []
-written n (x ∷ xs) = take n x ++ written n xs
 
 -- what a stop leaves in the buffers: "past what was written they are unchanged"
 unfoldable pub outcome : ℕ → List ℕ → List ℕ → Stop → Outcome

@@ -14,7 +14,7 @@ use Rattle.algebra.specs.Lists.{All}
 use Rattle.model.specs.Fields.{bits}
 use Rattle.model.specs.Sharing.{Sharing}
 use Rattle.model.specs.Shamir.{Group, Agree}
-use Rattle.model.specs.Steps.{Row, Deal}
+use Rattle.model.specs.Deal.{Row, Deal}
 use Rattle.model.specs.Sheet.{Header, headerOf, settingOf, scriptIn, inputIn, dealRows, goodMask, goodTriple, sheetOf}
 use Rattle.model.specs.Run.{Outcome, stopOf, run}
 use Rattle.model.specs.Exactness.{Accepted}
