@@ -76,7 +76,7 @@ module _ (S : Setting) {K : ℕ} (F : Field (S .p) (S .l) K) (P : Parties (S .n)
 
   shared-quotient : (k m : ℕ) {a : ℕ} {x z : Row} → Shared S a x → Shared S (rem (S .p) k m a) z → Shared S (quot (S .p) k m a) (quotient S m x z)
   unfolding quot
-  shared-quotient k m X Z = let M = F .modulus-is in shared-times S M P _ (shared-minus S M P X Z)
+  shared-quotient k m X Z = let M = F .modulus-is in search (shared-plus S M P, shared-minus S M P, shared-times S M P)
 
   pub worked-floor : (k m : ℕ) → Ranges K k m → (d : Deal) → All (TripleOk S) (d .triples) → MaskOk S (first [] (d .masks)) → {a : ℕ} {x : Row} → Shared S a x
       → Worked S (quot (S .p) k m a) (floor S k m x d)

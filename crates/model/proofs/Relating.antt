@@ -137,7 +137,7 @@ module _ (S : Setting) {K : ℕ} (F : Field (S .p) (S .l) K) (wide : K < S .l) (
     related-floor : {go go′ : Row → Tree} → ((z z′ : Row) → Tied S group (quot (S .p) k m v) (quot (S .p) k m v′) z z′ → Related S group j n us (go z) (go′ z′))
         → Related S group (suc j) (n + (S .l + 2 * m - 2)) us (floorTree S k m a go) (floorTree S k m a′ go′)
     unfolding quot
-    related-floor h = let M = F .modulus-is in related-remainder (λ z z′ u. h _ _ (tied-times S M P G _ (tied-minus S M P G t u)))
+    related-floor h = let M = F .modulus-is in related-remainder (λ z z′ u. h _ _ (search (tied-plus S M P G, tied-minus S M P G, tied-times S M P G)))
 
   related-sign : {j n : ℕ} {us : List ℕ} (k : ℕ) → Ranges K k (k - 1) → {v v′ : ℕ} {a a′ : Row} → Tied S group v v′ a a′ → {go go′ : Row → Tree}
       → ((z z′ : Row) → Tied S group (negative (S .p) k v) (negative (S .p) k v′) z z′ → Related S group j n us (go z) (go′ z′))
