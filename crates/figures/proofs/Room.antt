@@ -1,76 +1,57 @@
 -- No run outgrows a record of 10,850 numbers and a revealed list of 511: by how many lines a script has and what each spends.
 -- Assumes nothing.
-use mathlib.Core.Path.{_≡_, refl, sym, _∙_}
-use mathlib.Core.Logic.{_≢_}
-use mathlib.Core.Bool.{Bool, true, false, cond}
+use mathlib.Core.Path.{_≡_, refl, sym, subst, _∙_}
+use mathlib.Core.Logic.{_≢_, inr}
+use mathlib.Core.Bool.{true, false}
 use mathlib.Core.List.{List, [], _∷_}
 use Prim.Native.Nat.{ℕ, zero, suc, _+_, _*_, _≤_, _<_}
 use native.Mathlib.Nat.{mul-le-mul, min-le-left}
 use native.Mathlib.Omega.{arith}
-use borrow.Author.Tests.{ltb-false, eqb-true, eqb-false, leb-true, le-leb}
-use lib.Dec.{T, ltb, leb, eqb, leb→le, lit≤}
+use borrow.Author.Tests.{eqb-true, eqb-false, leb-true, le-leb}
+use lib.Dec.{T, leb, eqb, leb→le}
 use lib.ListN.{length, getD, drop, length-take}
-use Rattle.algebra.proofs.Tests.{and-left, and-right, and-true, is-true, true-false, every-at}
+use Rattle.algebra.proofs.Tests.{and-left, and-right, and-true, is-true, true-false, every-at, choice}
 use Rattle.model.specs.Steps.{Setting, Row, Deal}
-use Rattle.model.specs.Script.{Command, END, LOAD, CONST, ADD, SUB, SCALE, MUL, MOD, TRUNC, LTZ, OVER, BLOCKS, REVEAL, BITLT, Line, Script, accepted, refused, sizes, commandAt, sizeAt, inRanges, numberAt, withLine, scriptStep, scriptFrom, scriptOf}
+use Rattle.model.specs.Script.{Command, END, LOAD, CONST, ADD, SUB, SCALE, MUL, MOD, TRUNC, LTZ, OVER, BLOCKS, REVEAL, BITLT, Line, Script, accepted, refused, sizes, sizeAt, numberAt, withLine, scriptStep, scriptFrom, scriptOf}
 use Rattle.model.specs.Costs.{Cost, cost}
-use Rattle.model.specs.Sheet.{Header, headerOf, settingOf, limits, scriptIn, inputIn, dealIn, sheetNumber}
-use Rattle.model.specs.Run.{Spent, State, Supply, Stop, allSet, check, pay, finish, orElse, runLines, nothingSpent, start, supplyOf, runScript, sheetScript, stopOf, outcome, run}
+use Rattle.model.specs.Sheet.{Header, headerOf, settingOf, limits, scriptIn, inputIn, dealIn}
+use Rattle.model.specs.Run.{Spent, State, Supply, allSet, check, pay, finish, runLines, nothingSpent, start, supplyOf, runScript, stopOf, outcome, run}
 use Rattle.model.proofs.Held.{check-passed, all-same}
+use Rattle.model.specs.Exactness.{Accepted}
 use Rattle.model.proofs.Acceptance.{sound}
-use Rattle.figures.specs.Room.{NoRunOutgrows}
+use Rattle.model.proofs.Refusals.{Told, told, or-else, numbers}
+use Rattle.figures.specs.Room.{recordLength, revealedLength, NoRunOutgrows}
 
 -- a number that is neither of the two
 abbrev Other : ℕ → Type 0
 Other number = (number ≢ 25) × (number ≢ 26)
 
--- what holds of both branches of a test; and a stop has the number of a refusal, or else that of the rest
-choice : {A : Type 0} (P : A → Type 0) (b : Bool) {x y : A} → (b ≡ true → P x) → (b ≡ false → P y) → P (cond b x y)
-choice P true k l = k refl
-choice P false k l = l refl
-
-or-else : (number place : ℕ) (s : State) (x : Stop) → Other number → (number ≡ 0 → Other (x .number)) → Other (orElse number place s x .number)
-or-else zero place s x o k = k refl
-or-else (suc number) place s x o k = o
-
 -- Every line takes at least two bytes and END takes one, so a script of 1,024 bytes has at most 511 lines.
 abbrev Short : List ℕ → ℕ → Script → Type 0
 Short s i (accepted xs end) = i + 2 * length xs < length s
-Short s i (refused number place) = Other number
+Short s i (refused number place) = Unit {0}
 
 two-bytes : (b : ℕ) → b < 14 → b ≢ 0 → 2 ≤ getD sizes b 1
 two-bytes zero h k = absurd (k refl)
 two-bytes (suc b) h k = leb→le 2 _ (every-at 13 (λ b. leb 2 (getD sizes (suc b) 1)) tt b (omega arith))
 
 module _ (p K : ℕ) (s : List ℕ) where
-  -- what stands at place i: a refusal has another number, and what is not refused is a command
-  abbrev Told : ℕ → ℕ → Type 0
-  Told i number = Other number × (number ≡ 0 → getD s i 0 < 14)
-
-  told : (i : ℕ) → Told i (numberAt p K s i)
-  unfolding numberAt
-  told i =
-      choice (Told i) (leb (length s) i) (λ _. omega arith)
-      (λ _. choice (Told i) (ltb 13 (getD s i 0)) (λ _. omega arith)
-      (λ f. choice (Told i) (ltb (length s) (i + sizeAt s i)) (λ _. omega arith)
-      (λ _. choice (Told i) (inRanges p K (commandAt s i)) (λ _. omega (arith, ltb-false 13 (getD s i 0) f)) (λ _. omega arith))))
-
   with-line : (i : ℕ) (x : Line) (rest : Script) → 2 ≤ sizeAt s i → Short s (i + sizeAt s i) rest → Short s i (withLine x rest)
   with-line i x (accepted xs end) h k = omega arith
-  with-line i x (refused number place) h k = k
+  with-line i x (refused number place) h k = tt
 
-  step : (number i : ℕ) (rest : Script) → Told i number → Short s (i + sizeAt s i) rest → Short s i (scriptStep number s i rest)
+  step : (number i : ℕ) (rest : Script) → Told p K s i number → Short s (i + sizeAt s i) rest → Short s i (scriptStep number s i rest)
   unfolding sizeAt
-  step (suc number) i rest t k = t .0
+  step (suc number) i rest t k = tt
   step zero i rest t k =
       choice (Short s i) (eqb (getD s i 0) 0)
-      (λ _. choice (Short s i) (eqb (i + 1) (length s)) (λ e. omega (arith, eqb-true (i + 1) (length s) e)) (λ _. omega arith))
+      (λ _. choice (Short s i) (eqb (i + 1) (length s)) (λ e. omega (arith, eqb-true (i + 1) (length s) e)) (λ _. tt))
       (λ e. with-line i _ rest (two-bytes (getD s i 0) (t .1 refl) (eqb-false _ _ e)) k)
 
   short : (most i : ℕ) → Short s i (scriptFrom most p K s i)
   unfolding scriptFrom
-  short zero i = omega arith
-  short (suc most) i = step (numberAt p K s i) i _ (told i) (short most (i + sizeAt s i))
+  short zero i = tt
+  short (suc most) i = step (numberAt p K s i) i _ (told p K s i) (short most (i + sizeAt s i))
 
 -- What a command opens: one row for a mask, two for a triple, and one for the register that it reveals.
 data Opens (c : Cost) : Type 0 where
@@ -126,7 +107,7 @@ unfolding limits
 limited h t = search (leb→le, and-left, and-right)
 
 -- the run of an accepted sheet, by its header
-module _ (h : Header) (counts : T (limits h)) (people : h .n ≤ 7) (log shown : ℕ) (log-long : 10850 ≤ log) (shown-long : 511 ≤ shown) where
+module _ (h : Header) (counts : T (limits h)) (people : h .n ≤ 7) (log shown : ℕ) (log-long : recordLength ≤ log) (shown-long : revealedLength ≤ shown) where
   abbrev u : Supply
   u = supplyOf h log shown
 
@@ -160,30 +141,29 @@ module _ (h : Header) (counts : T (limits h)) (people : h .n ≤ 7) (log shown :
     unfolding runLines
     lines [] s k = omega arith
     lines (x ∷ xs) s k =
-        or-else (check u (cost (S .l) (x .command)) (s .spent)) (x .place) s _ (checked (opens (S .l) (x .command)) k)
+        or-else Other (check u (cost (S .l) (x .command)) (s .spent)) (x .place) s _ (checked (opens (S .l) (x .command)) k)
         (λ e. lines xs (finish S input (x .command) s) (finished (x .command) s k e))
 
-  script : (s : List ℕ) (x : Script) → Short (scriptIn h s) 0 x → Other (runScript h s log shown x .number)
-  unfolding runScript scriptIn
-  script s (refused number place) k = k
-  script s (accepted xs end) k =
+  script : (s : List ℕ) (xs : List Line) (end : ℕ) → Short (scriptIn h s) 0 (accepted xs end)
+      → Other (runLines (settingOf h) u (inputIn h s) end xs (start (dealIn h s)) .number)
+  unfolding scriptIn
+  script s xs end k =
       let l = limited h counts in
       lines (settingOf h) (inputIn h s) end xs (start (dealIn h s))
       (before-first (dealIn h s) (length xs) (omega (arith, rw length-take at k, min-le-left (h .script) (length (drop 11 s)))))
 
--- a sheet that is refused has another number
-low : (b : Bool) (x y : ℕ) → x ≤ 8 → y ≤ 8 → cond b x y ≤ 8
-low true x y h k = h
-low false x y h k = k
+accepted-other : (s : List ℕ) (log shown : ℕ) → recordLength ≤ log → revealedLength ≤ shown → Accepted s → Other (stopOf s log shown .number)
+unfolding stopOf runScript scriptOf
+accepted-other s log shown log-long shown-long a =
+    let h = headerOf s in
+    let Q = sound s (a .number) in
+    rw (a .number, a .script)
+    (script h (Q .counts) (Q .people .most) log shown log-long shown-long s (a .lines) (a .end) (subst (Short (scriptIn h s) 0) (a .script) (short _ _ (scriptIn h s) _ 0)))
 
-sheet-low : (s : List ℕ) → sheetNumber s ≤ 8
-unfolding sheetNumber
-sheet-low s = search (low, lit≤, tt) depth 10
-
+-- 25 and 26 are numbers of accepted sheets only
 pub no-run-outgrows : NoRunOutgrows
-unfolding run outcome stopOf scriptOf
+unfolding run outcome
 no-run-outgrows s log revealed log-long shown-long =
-    or-else (sheetNumber s) 0 _ _ (omega (arith, sheet-low s))
-    (λ e.
-    let Q = sound s e in
-    script (headerOf s) (Q .counts) (Q .people .most) (length log) (length revealed) log-long shown-long s (sheetScript s) (short _ _ (scriptIn (headerOf s) s) _ 0))
+    let N = numbers .of-run s log revealed .state .0 in
+    let o = accepted-other s (length log) (length revealed) log-long shown-long in
+    (λ e. o (N (inr (omega arith))) .0 e, λ e. o (N (inr (omega arith))) .1 e)

@@ -24,6 +24,7 @@ pub mod Making
 pub mod Acceptance
 pub mod Written
 pub mod Exactness
+pub mod Refusals
 pub mod Tied
 pub mod Trees
 pub mod Twins

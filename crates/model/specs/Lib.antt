@@ -12,4 +12,5 @@ pub mod Plain
 pub mod Shamir
 pub mod Making
 pub mod Exactness
+pub mod Refusals
 pub mod Secrecy
