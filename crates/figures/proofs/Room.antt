@@ -8,17 +8,18 @@ use Prim.Native.Nat.{ℕ, zero, suc, _+_, _*_, _≤_, _<_}
 use native.Mathlib.Nat.{mul-le-mul, min-le-left}
 use native.Mathlib.Omega.{arith}
 use borrow.Author.Tests.{eqb-true, eqb-false, leb-true, le-leb}
-use lib.Dec.{T, leb, eqb, leb→le}
+use lib.Dec.{leb, eqb, leb→le}
 use lib.ListN.{length, getD, drop, length-take}
-use Rattle.algebra.proofs.Tests.{and-left, and-right, and-true, is-true, true-false, every-at, choice}
+use Rattle.algebra.proofs.Tests.{and-true, is-true, true-false, every-at, choice}
 use Rattle.model.specs.Steps.{Setting, Row, Deal}
 use Rattle.model.specs.Script.{Command, END, LOAD, CONST, ADD, SUB, SCALE, MUL, MOD, TRUNC, LTZ, OVER, BLOCKS, REVEAL, BITLT, Line, Script, accepted, refused, sizes, sizeAt, numberAt, withLine, scriptStep, scriptFrom, scriptOf}
 use Rattle.model.specs.Costs.{Cost, cost}
-use Rattle.model.specs.Sheet.{Header, headerOf, settingOf, limits, scriptIn, inputIn, dealIn}
+use Rattle.model.specs.Sheet.{Header, headerOf, settingOf, scriptIn, inputIn, dealIn}
 use Rattle.model.specs.Run.{Spent, State, Supply, allSet, check, pay, finish, runLines, nothingSpent, start, supplyOf, runScript, stopOf, outcome, run}
-use Rattle.model.proofs.Held.{check-passed, all-same}
 use Rattle.model.specs.Exactness.{Accepted}
+use Rattle.model.proofs.Held.{check-passed, all-same}
 use Rattle.model.proofs.Acceptance.{sound}
+use Rattle.model.proofs.Lengths.{Fitting, fitting}
 use Rattle.model.proofs.Refusals.{Told, told, or-else, numbers}
 use Rattle.figures.specs.Room.{recordLength, revealedLength, NoRunOutgrows}
 
@@ -101,20 +102,14 @@ after (shows a q e f) k t =
     let h = k .set a (sym (and-true _) ∙ rw q at t) in
     record { openings = omega arith; lines = omega arith }
 
--- the sheet's limits that count here
-limited : (h : Header) → T (limits h) → ((h .masks ≤ 16) × (h .triples ≤ 512)) × (h .script ≤ 1024)
-unfolding limits
-limited h t = search (leb→le, and-left, and-right)
-
 -- the run of an accepted sheet, by its header
-module _ (h : Header) (counts : T (limits h)) (people : h .n ≤ 7) (log shown : ℕ) (log-long : recordLength ≤ log) (shown-long : revealedLength ≤ shown) where
+module _ (h : Header) (fits : Fitting h) (people : h .n ≤ 7) (log shown : ℕ) (log-long : recordLength ≤ log) (shown-long : revealedLength ≤ shown) where
   abbrev u : Supply
   u = supplyOf h log shown
 
   -- with the masks and triples of the sheet there are at most 1,024 + 16 + 510 openings
   room : {s : Spent} {left : ℕ} → Counts 510 s left → s .masks ≤ h .masks → s .triples ≤ h .triples → (s .openings * h .n ≤ log) × (s .revealed ≤ shown)
   room {s} a m t =
-      let l = limited h counts in
       let q : s .openings * h .n ≤ (1024 + 16 + 510) * 7 = mul-le-mul {n₂ = 1024 + 16 + 510} {m₂ = 7} (omega arith) people in
       omega arith
 
@@ -148,9 +143,8 @@ module _ (h : Header) (counts : T (limits h)) (people : h .n ≤ 7) (log shown :
       → Other (runLines (settingOf h) u (inputIn h s) end xs (start (dealIn h s)) .number)
   unfolding scriptIn
   script s xs end k =
-      let l = limited h counts in
       lines (settingOf h) (inputIn h s) end xs (start (dealIn h s))
-      (before-first (dealIn h s) (length xs) (omega (arith, rw length-take at k, min-le-left (h .script) (length (drop 11 s)))))
+      (before-first (dealIn h s) (length xs) (omega (arith, fits, rw length-take at k, min-le-left (h .script) (length (drop 11 s)))))
 
 accepted-other : (s : List ℕ) (log shown : ℕ) → recordLength ≤ log → revealedLength ≤ shown → Accepted s → Other (stopOf s log shown .number)
 unfolding stopOf runScript scriptOf
@@ -158,7 +152,7 @@ accepted-other s log shown log-long shown-long a =
     let h = headerOf s in
     let Q = sound s (a .number) in
     rw (a .number, a .script)
-    (script h (Q .counts) (Q .people .most) log shown log-long shown-long s (a .lines) (a .end) (subst (Short (scriptIn h s) 0) (a .script) (short _ _ (scriptIn h s) _ 0)))
+    (script h (fitting h (Q .field) (Q .people .most) (Q .counts)) (Q .people .most) log shown log-long shown-long s (a .lines) (a .end) (subst (Short (scriptIn h s) 0) (a .script) (short _ _ (scriptIn h s) _ 0)))
 
 -- 25 and 26 are numbers of accepted sheets only
 pub no-run-outgrows : NoRunOutgrows

@@ -18,6 +18,7 @@ pub mod Masked
 pub mod Held
 pub mod Running
 pub mod LittleEndian
+pub mod Lengths
 pub mod SheetRows
 pub mod SheetDeal
 pub mod Making
