@@ -12,8 +12,8 @@ use lib.IntN.{ℤ, pos, negsuc, negℤ, subℕ, _+ℤ_, _*ℤ_}
 use lib.Pow.{pow-pos, pow-mono}
 use lib.Signed.{mag, nonNeg, leZ, ltZ, shrZ}
 use Rattle.algebra.proofs.Tests.{and-true, is-true}
-use Rattle.model.specs.Fields.{modulus, largestK, Field}
-use Rattle.model.specs.Coding.{inRange, code, readBack, Codes}
+use Rattle.model.specs.Fields.{Field}
+use Rattle.model.specs.Coding.{inRange, code, readBack, Codes, EveryCoding}
 use Rattle.model.proofs.Fields.{fields}
 
 -- the k-bit range is a bound of the magnitude
@@ -93,5 +93,5 @@ field-codes {p} {l} {K} F = record {
   coding-undoes = code-read p;
 }
 
-pub codes : (f : ℕ) → f < 4 → Codes (modulus f) (largestK f)
-codes f h = field-codes (fields f h)
+pub every-coding : EveryCoding
+every-coding f h = field-codes (fields f h)

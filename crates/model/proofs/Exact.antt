@@ -1,4 +1,4 @@
--- `exact`: what the plain interpreter's formulas are in ℤ, in every field of the table.
+-- What the plain interpreter's formulas are in ℤ, in every field of the table.
 -- Assumes nothing.
 use mathlib.Core.Path.{_≡_, ap, _∙_}
 use Prim.Native.Nat.{ℕ, suc, _+_, _-_, _*_, _/_, _^_, _≤_, _<_}
@@ -10,9 +10,9 @@ use lib.Pow.{pow-pos, pow-mono, pow-add}
 use lib.Signed.{mag, ltZ, shrZ, mag-shr}
 use Rattle.algebra.proofs.Lists.{all-below}
 use Rattle.algebra.proofs.Ring.{sub-lt}
-use Rattle.model.specs.Fields.{modulus, largestK, powerOf2, inversePowerOf2, Field}
+use Rattle.model.specs.Fields.{powerOf2, inversePowerOf2, Field}
 use Rattle.model.specs.Coding.{inRange, code, readBack}
-use Rattle.model.specs.Plain.{rem, quot, negative, exceeds, charged, Division, one, Exact}
+use Rattle.model.specs.Plain.{rem, quot, negative, exceeds, charged, Division, one, Exact, EveryFormula}
 use Rattle.model.proofs.Fields.{fields, power-inverse}
 use Rattle.model.proofs.Coding.{in-range, code-below, code-floor, read-code, code-read}
 use Rattle.model.proofs.Comparing.{less-is}
@@ -22,7 +22,7 @@ in-magnitude : (k : ℕ) (a : ℤ) → T (inRange k a) → mag a < 2 ^ (k - 1)
 in-magnitude k a t = ltb→lt (mag a) (2 ^ (k - 1)) (rw in-range at t)
 
 module _ {p l K : ℕ} (F : Field p l K) where
-  twice-fits : (k : ℕ) → 1 ≤ k → k ≤ K → 2 ^ (k - 1) + 2 ^ (k - 1) < p
+  pub twice-fits : (k : ℕ) → 1 ≤ k → k ≤ K → 2 ^ (k - 1) + 2 ^ (k - 1) < p
   twice-fits k h m = let fits : 2 ^ suc (k - 1) ≤ 2 ^ K = pow-mono (omega arith) in omega (arith, pow-suc 2 (k - 1))
 
   module _ (k m : ℕ) (a : ℤ) (hk : k ≤ K) (hm : m < k) (r : mag a < 2 ^ (k - 1)) where
@@ -67,7 +67,7 @@ module _ {p l K : ℕ} (F : Field p l K) where
       → Division (readBack p x) (2 ^ m) (readBack p (quot p k m x)) (rem p k m x)
   division-read k m x _ hk _ hm l t = rw (code-read p x l) at (division-code k m (readBack p x) hk hm (in-magnitude k (readBack p x) t))
 
-  field-exact : Exact p K
+  pub field-exact : Exact p K
   unfolding exceeds charged
   field-exact =
       let z : 0 < p = omega arith in
@@ -81,5 +81,5 @@ module _ {p l K : ℕ} (F : Field p l K) where
         compares = λ v bs n t l. less-is p v bs (omega arith) (all-below 2 bs .0 t) n l;
       }
 
-pub exact : (f : ℕ) → f < 4 → Exact (modulus f) (largestK f)
-exact f h = field-exact (fields f h)
+pub every-formula : EveryFormula
+every-formula f h = field-exact (fields f h)

@@ -12,11 +12,14 @@ use Rattle.model.specs.Script.{Command, END, LOAD, CONST, ADD, SUB, SCAL
 use Rattle.model.specs.Costs.{Cost, cost}
 use Rattle.model.specs.Sheet.{secrets}
 use Rattle.model.specs.Run.{Supply, State, noRow, check, pay, put, perform, finish, nothingSpent, start, orElse, runLines, runScript, stopOf}
-use Rattle.model.specs.Plain.{plainly}
+use Rattle.model.specs.Plain.{plainly, reveals}
+use Rattle.model.specs.Results.{Does}
 use Rattle.model.specs.Exactness.{Passes, begins, goes, Right, sumOf, Counted, at-end, at-line, Stopped, Exactness}
 use Rattle.model.proofs.Written.{length-written}
-use Rattle.model.proofs.Held.{Holds, holds-start, check-passed}
+use Rattle.model.proofs.Held.{Holds, holds-start, Passed, check-passed}
 use Rattle.model.proofs.Running.{Given, finish-holds}
+use Rattle.model.proofs.Balance.{Balanced, balanced-start, balanced-more}
+use Rattle.model.proofs.Performed.{reveals-more, leaves}
 use Rattle.model.proofs.Acceptance.{sound, given, InRange, lines-ok}
 
 all-head : {A : Type 0} {P : A → Type 0} {x : A} {xs : List A} → All P (x ∷ xs) → P x
@@ -33,8 +36,10 @@ sum-more l f (y ∷ ys) x = rw (sum-more l f ys x) (omega arith)
 
 module _ {S : Setting} {K : ℕ} {u : Supply} {input : List Row} {d : Deal} (G : Given S K u input d) (xs : List Line) (ok : All (InRange (S .p) K) xs) where
   -- what is known after each finished command
-  record Known (ys : List Line) (s : State) (vs : List ℕ) : Type 0 where
+  record Known (ys : List Line) (s : State) (vs ws : List ℕ) : Type 0 where
     pub holds : Holds S d s vs
+    pub shown : s .shown ≡ ws
+    pub balance : Balanced (s .spent)
     pub ranges : All (InRange (S .p) K) ys
     pub done : List Line
     pub split : xs ≡ done ++ ys
@@ -44,11 +49,13 @@ module _ {S : Setting} {K : ℕ} {u : Supply} {input : List Row} {d : Deal} (G :
     pub openings : s .spent .openings ≡ sumOf (S .l) (λ c. c .openings) done
     pub revealed : s .spent .revealed ≡ sumOf (S .l) (λ c. c .revealed) done
 
-  known-start : Known xs (start d) (replicate 64 0)
+  known-start : Known xs (start d) (replicate 64 0) []
   unfolding start nothingSpent sumOf
   known-start =
       record {
         holds = holds-start S d;
+        shown = refl;
+        balance = balanced-start d;
         ranges = ok;
         done = [];
         split = refl;
@@ -59,12 +66,18 @@ module _ {S : Setting} {K : ℕ} {u : Supply} {input : List Row} {d : Deal} (G :
         revealed = refl;
       }
 
-  known-more : {x : Line} {ys : List Line} {s : State} {vs : List ℕ} → Known (x ∷ ys) s vs → check u (cost (S .l) (x .command)) (s .spent) ≡ 0
-      → Known ys (finish S input (x .command) s) (plainly (S .p) (secrets S input) (s .spent .inputs) (x .command) vs)
+  passed : {x : Line} {ys : List Line} {s : State} {vs ws : List ℕ} → Known (x ∷ ys) s vs ws → check u (cost (S .l) (x .command)) (s .spent) ≡ 0
+      → Passed u (cost (S .l) (x .command)) (s .spent)
+  passed {x} {s = s} q e = check-passed u (cost (S .l) (x .command)) (s .spent) e
+
+  known-more : {x : Line} {ys : List Line} {s : State} {vs ws : List ℕ} → Known (x ∷ ys) s vs ws → check u (cost (S .l) (x .command)) (s .spent) ≡ 0
+      → Known ys (finish S input (x .command) s) (plainly (S .p) (secrets S input) (s .spent .inputs) (x .command) vs) (ws ++ reveals (x .command) vs)
   unfolding finish pay
-  known-more {x} {ys} {s} {vs} q e =
+  known-more {x} {ys} {s} {vs} {ws} q e =
       record {
-        holds = finish-holds G s vs (q .holds) (x .command) (all-head (q .ranges)) (check-passed u (cost (S .l) (x .command)) (s .spent) e);
+        holds = finish-holds G s vs (q .holds) (x .command) (all-head (q .ranges)) (passed q e);
+        shown = reveals-more G s vs (q .holds) (x .command) (passed q e) ∙ ap (λ zs. zs ++ reveals (x .command) vs) (q .shown);
+        balance = balanced-more (S .l) (x .command) (s .spent) (q .balance);
         ranges = all-tail (q .ranges);
         done = q .done ++ (x ∷ []);
         split = q .split ∙ rw append-assoc;
@@ -75,16 +88,30 @@ module _ {S : Setting} {K : ℕ} {u : Supply} {input : List Row} {d : Deal} (G :
         revealed = rw (sum-more (S .l) (λ c. c .revealed), q .revealed);
       }
 
-  known : {ys : List Line} {s : State} {vs : List ℕ} → Passes S u input d xs ys s vs → Known ys s vs
+  known : {ys : List Line} {s : State} {vs ws : List ℕ} → Passes S u input d xs ys s vs ws → Known ys s vs ws
   known begins = known-start
   known (goes p e) = known-more (known p) e
 
-  right : {ys : List Line} {s : State} {vs : List ℕ} → Passes S u input d xs ys s vs → Right S s vs
-  right p =
-      let H = known p .holds .held in
-      record { sharing = λ r m. H .shared r m .sharing; secret-is = λ r m. H .shared r m .is; unset = H .unset }
+  does : {y : Line} {ys : List Line} {s : State} {vs ws : List ℕ} → Passes S u input d xs (y ∷ ys) s vs ws
+      → check u (cost (S .l) (y .command)) (s .spent) ≡ 0 → Does S K input (y .command) s (finish S input (y .command) s)
+  does {y} {s = s} {vs} p e =
+      let q = known p in
+      record { in-range = all-head (q .ranges); leaves = leaves G s vs (q .holds) (y .command) (all-head (q .ranges)) (passed q e) }
 
-  counted : {ys : List Line} {s : State} {vs : List ℕ} → Passes S u input d xs ys s vs → Counted S d xs ys s
+  right : {ys : List Line} {s : State} {vs ws : List ℕ} → Passes S u input d xs ys s vs ws → Right S s vs ws
+  right p =
+      let q = known p in
+      let H = q .holds .held in
+      record {
+        registers = H .registers-64;
+        values = H .values-64;
+        sharing = λ r m. H .shared r m .sharing;
+        secret-is = λ r m. H .shared r m .is;
+        unset = H .unset;
+        shown = q .shown;
+      }
+
+  counted : {ys : List Line} {s : State} {vs ws : List ℕ} → Passes S u input d xs ys s vs ws → Counted S d xs ys s
   counted p =
       let q = known p in
       record {
@@ -95,6 +122,7 @@ module _ {S : Setting} {K : ℕ} {u : Supply} {input : List Row} {d : Deal} (G :
         triples = q .triples;
         openings = q .openings;
         revealed = q .revealed;
+        balance = q .balance;
         masks-left = q .holds .used .masks;
         triples-left = q .holds .used .triples;
         opened = q .holds .opens;
@@ -103,9 +131,9 @@ module _ {S : Setting} {K : ℕ} {u : Supply} {input : List Row} {d : Deal} (G :
       }
 
   -- the run of the lines that are left stops in a state that it passes through
-  stopped : (end : ℕ) (ys : List Line) {s : State} {vs : List ℕ} → Passes S u input d xs ys s vs → Stopped S u input d xs end (runLines S u input end ys s)
+  stopped : (end : ℕ) (ys : List Line) {s : State} {vs ws : List ℕ} → Passes S u input d xs ys s vs ws → Stopped S u input d xs end (runLines S u input end ys s)
   unfolding runLines
-  stopped end [] p = record { left = []; values = _; passes = p; stops = at-end refl refl }
+  stopped end [] p = record { left = []; values = _; revealed = _; passes = p; stops = at-end refl refl }
   stopped end (y ∷ ys) {s} p =
       either (check u (cost (S .l) (y .command)) (s .spent)) refl (λ e. stopped end ys (goes p e))
     where
@@ -113,7 +141,7 @@ module _ {S : Setting} {K : ℕ} {u : Supply} {input : List Row} {d : Deal} (G :
           → (check u (cost (S .l) (y .command)) (s .spent) ≡ 0 → Stopped S u input d xs end (runLines S u input end ys (finish S input (y .command) s)))
           → Stopped S u input d xs end (orElse k (y .place) s (runLines S u input end ys (finish S input (y .command) s)))
       either zero e go = go (sym e)
-      either (suc k) e go = record { left = y ∷ ys; values = _; passes = p; stops = at-line e (λ z. omega arith) refl }
+      either (suc k) e go = record { left = y ∷ ys; values = _; revealed = _; passes = p; stops = at-line e (λ z. omega arith) refl }
 
 -- a command writes only what its cost says
 keeps : (S : Setting) (input : List Row) (c : Command) (s : State) (r : ℕ) → (In r (cost (S .l) c .writes) → ⊥)
@@ -141,8 +169,9 @@ exactness sheet log shown A =
     let G = given sheet Q log shown in
     let ok = lines-ok _ _ _ (A .lines) (A .end) (A .script) in
     record {
-      right = λ ys s vs p. right G (A .lines) ok p;
-      counted = λ ys s vs p. counted G (A .lines) ok p;
-      keeps = λ x ys s vs p. keeps _ _ (x .command) s;
+      does = λ y ys s vs ws p e. does G (A .lines) ok p e;
+      right = λ ys s vs ws p. right G (A .lines) ok p;
+      counted = λ ys s vs ws p. counted G (A .lines) ok p;
+      keeps = λ x ys s vs ws p. keeps _ _ (x .command) s;
       stops = rw (A .number, A .script) (stopped G (A .lines) ok (A .end) (A .lines) begins);
     }

@@ -9,7 +9,7 @@ use lib.Dec.{T, ltb, leb, eqb, ltb→lt, leb→le, le→leb, eqb→eq}
 use Rattle.algebra.specs.Ring.{mul}
 use Rattle.algebra.proofs.Ring.{by-quotients, ring, mod-ring, reduced, both-reduced, given, mul-lt}
 use Rattle.algebra.proofs.Tests.{and-left, and-right, and-both, every, every-at}
-use Rattle.model.specs.Fields.{modulus, bits, largestK, inverse, powerOf2, inversePowerOf2, Modulus, Field, Parties, parties}
+use Rattle.model.specs.Fields.{modulus, bits, largestK, inverse, powerOf2, inversePowerOf2, Modulus, Field, Parties, parties, PartiesTested, EveryField}
 
 -- the tests of one field, one for each fact
 unit-test : ℕ → ℕ → Bool
@@ -101,3 +101,9 @@ power-inverse {p} M (suc m) =
     turn x h i l e f =
         let z : 0 < p = omega arith in
         both-reduced {p = p} {y = 1} (mul-lt _ _ z) l (given (2 * h) _ _ z f (given 1 _ _ z e (simp mod-ring (ring z _ _ _ _ (omega arith)))))
+
+pub parties-tested : PartiesTested
+parties-tested n t = (parties-facts n t, parties-test)
+
+pub every-field : EveryField
+every-field = record { field = fields; halves = λ f m h. power-inverse (fields f h .modulus-is) m }

@@ -24,6 +24,9 @@ pub mod SheetDeal
 pub mod Making
 pub mod Acceptance
 pub mod Written
+pub mod Balance
+pub mod Results
+pub mod Performed
 pub mod Exactness
 pub mod Refusals
 pub mod Tied

@@ -54,11 +54,11 @@ mask-length : {S : Setting} {r : List Row} → MaskOk S r → length r ≡ S .l
 mask-length {S} {r} N = sym (length-secrets S r) ∙ N .masking .count
 
 -- the registers that a command reads are set
-set-first : (marks : List Bool) (r : ℕ) (rs : List ℕ) → T (allSet marks (r ∷ rs)) → getD marks r false ≡ true
+pub set-first : (marks : List Bool) (r : ℕ) (rs : List ℕ) → T (allSet marks (r ∷ rs)) → getD marks r false ≡ true
 unfolding allSet
 set-first marks r rs t = is-true _ (and-left (getD marks r false) (allSet marks rs) t)
 
-set-others : (marks : List Bool) (r : ℕ) (rs : List ℕ) → T (allSet marks (r ∷ rs)) → T (allSet marks rs)
+pub set-others : (marks : List Bool) (r : ℕ) (rs : List ℕ) → T (allSet marks (r ∷ rs)) → T (allSet marks rs)
 unfolding allSet
 set-others marks r rs t = and-right (getD marks r false) (allSet marks rs) t
 
@@ -82,6 +82,16 @@ sign-ranges K d a k ok =
     let r = k-range K k t in
     record { k-most = r .1; m-least = omega arith; m-most = omega arith }
 
+-- register d, then more tests
+pub low : (d : ℕ) (x : Bool) → T (register d && x) → d < 64
+low d x t = ltb→lt d 64 (and-left (register d) x t)
+
+pub low₂ : (d : ℕ) (x y : Bool) → T (register d && x && y) → d < 64
+low₂ d x y t = low d x (and-left (register d && x) y t)
+
+pub low₃ : (d : ℕ) (x y z : Bool) → T (register d && x && y && z) → d < 64
+low₃ d x y z t = low₂ d x y (and-left (register d && x && y) z t)
+
 module _ {S : Setting} {K : ℕ} {u : Supply} {input : List Row} {d₀ : Deal} (G : Given S K u input d₀) where
   -- registers b to b + w - 1
   shareds-from : (s : State) {vs : List ℕ} → Held S (s .spent .marks) (s .registers) vs → (b w : ℕ) → T (allSet (s .spent .marks) (from b w))
@@ -103,22 +113,12 @@ module _ {S : Setting} {K : ℕ} {u : Supply} {input : List Row} {d₀ : Deal} (
   mask-left : {s : State} {vs : List ℕ} → Holds S d₀ s vs → s .spent .masks + 1 ≤ u .masks → MaskOk S (first [] (s .deal .masks))
   mask-left {s} H h = rw (H .used .masks) (next-mask (G .masks-ok) (s .spent .masks) (omega (arith, G .masks-many)))
 
-  -- register d, then more tests
-  low : (d : ℕ) (x : Bool) → T (register d && x) → d < 64
-  low d x t = ltb→lt d 64 (and-left (register d) x t)
-
-  low₂ : (d : ℕ) (x y : Bool) → T (register d && x && y) → d < 64
-  low₂ d x y t = low d x (and-left (register d && x) y t)
-
-  low₃ : (d : ℕ) (x y z : Bool) → T (register d && x && y && z) → d < 64
-  low₃ d x y z t = low₂ d x y (and-left (register d && x && y) z t)
-
   module _ (s : State) (vs : List ℕ) (H : Holds S d₀ s vs) where
     -- the value of a register that is read
-    reads : (r : ℕ) (rs : List ℕ) → T (allSet (s .spent .marks) (r ∷ rs)) → Shared S (getD vs r 0) (getD (s .registers) r noRow)
+    pub reads : (r : ℕ) (rs : List ℕ) → T (allSet (s .spent .marks) (r ∷ rs)) → Shared S (getD vs r 0) (getD (s .registers) r noRow)
     reads r rs t = H .held .shared r (set-first (s .spent .marks) r rs t)
 
-    reads-second : (q r : ℕ) (rs : List ℕ) → T (allSet (s .spent .marks) (q ∷ r ∷ rs)) → Shared S (getD vs r 0) (getD (s .registers) r noRow)
+    pub reads-second : (q r : ℕ) (rs : List ℕ) → T (allSet (s .spent .marks) (q ∷ r ∷ rs)) → Shared S (getD vs r 0) (getD (s .registers) r noRow)
     reads-second q r rs t = reads r rs (set-others (s .spent .marks) q (r ∷ rs) t)
 
     -- MOD, TRUNC and BLOCKS, and LTZ and OVER: in range and with a mask

@@ -119,6 +119,7 @@ same-outcome set n a b {x} {y} Q =
       masks = rw (Q .spent);
       triples = rw (Q .spent);
       openings = rw (Q .spent);
+      values = rw (Q .spent);
       marks = rw (Q .spent);
       columns = Q .columns;
     }

@@ -1,9 +1,9 @@
 -- Shamir's sharing keeps its promises, for every field of the table and all parties and thresholds that the paper permits.
 -- Assumes nothing.
-use Prim.Native.Nat.{ℕ, _<_}
+use Prim.Native.Nat.{ℕ}
 use native.Mathlib.Omega.{arith}
-use Rattle.model.specs.Fields.{modulus, Modulus, Parties}
-use Rattle.model.specs.Shamir.{Shamir}
+use Rattle.model.specs.Fields.{Modulus, Parties}
+use Rattle.model.specs.Shamir.{Shamir, EverySharing}
 use Rattle.model.proofs.Fields.{fields}
 use Rattle.model.proofs.Polynomials.{positive}
 use Rattle.model.proofs.Sharings as Sharings
@@ -26,5 +26,5 @@ shamir-at {p} {n} {t} M P =
       hidden = λ set x v G s k. Sharings.one-kept M P G x s k;
     }
 
-pub shamir : (f n t : ℕ) → f < 4 → Parties n t → Shamir (modulus f) n t
-shamir f n t h P = shamir-at (fields f h .modulus-is) P
+pub every-sharing : EverySharing
+every-sharing f n t h P = shamir-at (fields f h .modulus-is) P

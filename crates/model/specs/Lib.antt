@@ -11,6 +11,7 @@ pub mod Run
 pub mod Plain
 pub mod Shamir
 pub mod Making
+pub mod Results
 pub mod Exactness
 pub mod Refusals
 pub mod Secrecy

@@ -11,7 +11,7 @@ use lib.ListN.{length, getD, set}
 use lib.Signed.{ltZ}
 use Rattle.algebra.specs.Ring.{add, sub, mul}
 use Rattle.algebra.specs.Lists.{allBelow}
-use Rattle.model.specs.Fields.{inversePowerOf2}
+use Rattle.model.specs.Fields.{modulus, largestK, inversePowerOf2}
 use Rattle.model.specs.Coding.{inRange, code, readBack}
 use Rattle.model.specs.Steps.{odd}
 use Rattle.model.specs.Script.{Command, END, LOAD, CONST, ADD, SUB, SCALE, MUL, MOD, TRUNC, LTZ, OVER, BLOCKS, REVEAL, BITLT}
@@ -77,6 +77,23 @@ plainly p input j (BLOCKS d a k m) vs = set vs d (charged p k m (getD vs a 0))
 plainly p input j (REVEAL a) vs = vs
 plainly p input j (BITLT d b w v) vs = set vs d (less p v (valuesFrom vs b w))
 
+-- "REVEAL one opening, and its value goes to the revealed list": the values that a command puts there
+unfoldable pub reveals : Command → List ℕ → List ℕ
+reveals END vs = []
+reveals (LOAD d) vs = []
+reveals (CONST d v) vs = []
+reveals (ADD d a b) vs = []
+reveals (SUB d a b) vs = []
+reveals (SCALE d a v) vs = []
+reveals (MUL d a b) vs = []
+reveals (MOD d a k m) vs = []
+reveals (TRUNC d a k m) vs = []
+reveals (LTZ d a k) vs = []
+reveals (OVER d a k v) vs = []
+reveals (BLOCKS d a k m) vs = []
+reveals (REVEAL a) vs = getD vs a 0 ∷ []
+reveals (BITLT d b w v) vs = []
+
 -- In ℤ: z divided by M is q with the remainder r. This fixes both: q is z / M rounded down, and −3/2 is −2.
 pub record Division (z : ℤ) (M : ℕ) (q : ℤ) (r : ℕ) : Type 0 where
   pub is : z ≡ q *ℤ pos M +ℤ pos r
@@ -105,3 +122,7 @@ pub record Exact (p K : ℕ) : Type 0 where
   pub finished : (k m x : ℕ) → 2 ≤ k → k ≤ K → 1 ≤ m → m < k → x < 2 ^ (k - 1) → charged p k m x ≡ x / 2 ^ m
   -- BITLT of bits, for every number of them: 1 if v is below the number they spell, else 0
   pub compares : (v : ℕ) (bs : List ℕ) → 1 ≤ length bs → T (allBelow 2 bs) → v < 2 ^ length bs → less p v bs ≡ one (ltb v (spell bs))
+
+-- for every field of the table
+abbrev pub EveryFormula : Type 0
+EveryFormula = (f : ℕ) → f < 4 → Exact (modulus f) (largestK f)

@@ -153,7 +153,8 @@ nothingSpent = record { inputs = 0; masks = 0; triples = 0; openings = 0; reveal
 unfoldable pub start : Deal → State
 start d = record { spent = nothingSpent; registers = replicate 64 noRow; deal = d; opened = []; shown = [] }
 
--- "The answer holds number, place, inputs, masks, triples, openings, the registers and which are set", and both lent buffers. The paper's
+-- "The answer holds number, place, inputs, masks, triples, openings, the registers and which are set", and both lent buffers. With them stands
+-- how many values were revealed, which the paper's answer leaves to be computed from the counts (`Balance` in Exactness.antt). The paper's
 -- record, the list of opened shares, is called log here: record is a word of this language.
 pub record Outcome : Type 0 where
   pub number : ℕ
@@ -162,6 +163,7 @@ pub record Outcome : Type 0 where
   pub masks : ℕ
   pub triples : ℕ
   pub openings : ℕ
+  pub values : ℕ
   pub registers : List Row
   pub marks : List Bool
   pub log : List ℕ
@@ -183,6 +185,7 @@ outcome n log revealed x =
       masks = s .spent .masks;
       triples = s .spent .triples;
       openings = s .spent .openings;
+      values = s .spent .revealed;
       registers = s .registers;
       marks = s .spent .marks;
       log = Lists.over (written n (s .opened)) log;

@@ -45,6 +45,7 @@ pub record SameTo (set : List ℕ) (x y : Outcome) : Type 0 where
   pub masks : x .masks ≡ y .masks
   pub triples : x .triples ≡ y .triples
   pub openings : x .openings ≡ y .openings
+  pub values : x .values ≡ y .values
   pub marks : x .marks ≡ y .marks
   pub columns : Alike set (x .registers) (y .registers)
 

@@ -9,7 +9,7 @@ use lib.ListN.{length}
 use Rattle.algebra.specs.Ring.{add, sub, mul}
 use Rattle.algebra.specs.Lists.{Below, from, Distinct}
 use Rattle.algebra.specs.Rows.{row, on, padded}
-use Rattle.model.specs.Fields.{modulus}
+use Rattle.model.specs.Fields.{Parties, modulus}
 use Rattle.model.specs.Sharing.{Sharing, share, recover, secret, isSharing, at, weighted}
 use Rattle.model.specs.Entries.{shareNumber, shareLeft, recoverNumber, recoverValue, recoverLeft}
 
@@ -73,3 +73,11 @@ pub record Entries (f n t : ℕ) : Type 0 where
       × (shareLeft f n t (recoverValue f n t xs out) (recoverLeft f n t xs out) out′ ≡ xs)
   pub six-exact : (xs out : List ℕ) → length xs ≡ n → length out ≡ t → Below (modulus f) xs
       → (recoverNumber f n t xs out ≡ 6) ↔ (Sharing (modulus f) n t (padded xs) → ⊥)
+
+-- "Sharing and reconstruction are Shamir's, each undoing the other": for every field of the table, and all parties and thresholds that the paper
+-- permits
+abbrev pub EverySharing : Type 0
+EverySharing = (f n t : ℕ) → f < 4 → Parties n t → Shamir (modulus f) n t
+
+abbrev pub EveryEntry : Type 0
+EveryEntry = (f n t : ℕ) → f < 4 → Parties n t → Entries f n t
