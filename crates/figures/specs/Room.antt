@@ -3,7 +3,7 @@
 use mathlib.Core.Path.{_≡_}
 use mathlib.Core.Logic.{_≢_}
 use mathlib.Core.List.{List}
-use Prim.Native.Nat.{ℕ, suc, _≤_, _<_}
+use Prim.Native.Nat.{ℕ, suc, _*_, _≤_, _<_}
 use lib.Dec.{T, ltb}
 use lib.ListN.{length, take}
 use Rattle.model.specs.Fields.{parties}
@@ -24,6 +24,13 @@ abbrev pub NoRunOutgrows : Type 0
 NoRunOutgrows =
     (sheet log revealed : List ℕ) → recordLength ≤ length log → revealedLength ≤ length revealed
     → (run sheet log revealed .number ≢ 25) × (run sheet log revealed .number ≢ 26)
+
+-- "each opened line the shares of parties 1 to n; each revealed line the field value": the buffers hold them all, whatever their lengths
+abbrev pub AllHeld : Type 0
+AllHeld =
+    (sheet log revealed : List ℕ)
+    → let o = run sheet log revealed in
+    (o .openings * headerOf sheet .n ≤ length log) × (o .values ≤ length revealed)
 
 -- "The largest sheet is 59,723 bytes."
 abbrev pub largestSheet : ℕ

@@ -200,6 +200,7 @@ kept n log revealed number place =
       masks = refl;
       triples = refl;
       openings = refl;
+      values = refl;
     }
 
 untouched : (n : ℕ) (log revealed s : List ℕ) (x : Stop) → (Accepted s → ⊥) → Way s x → Untouched log revealed (outcome n log revealed x)

@@ -48,6 +48,7 @@ pub record Untouched (log revealed : List ℕ) (x : Outcome) : Type 0 where
   pub masks : x .masks ≡ 0
   pub triples : x .triples ≡ 0
   pub openings : x .openings ≡ 0
+  pub values : x .values ≡ 0
 
 -- for every sheet that is not accepted, and all buffers
 abbrev pub NothingRun : Type 0
