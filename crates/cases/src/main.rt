@@ -2,8 +2,11 @@
 // little-endian, the lengths of the sheet, the record and the revealed list; then the sheet.
 mod outcome;
 
-ghost use Prim.Native.Nat.{_≤_};
+ghost use mathlib.Core.Path.{_≡_};
+ghost use mathlib.Core.Logic.{_≢_};
+ghost use Prim.Native.Nat.{_+_, _≤_};
 ghost use lib.ListN.{length};
+ghost use Rattle.model.specs.Bytes as Bytes;
 use machine::run;
 use outcome::outcome;
 use sharing::rows;
@@ -27,7 +30,7 @@ fn run_cases(s: &[u8]) {
 
 // Answers how many bytes the case has, and 0 where they are not all there or a length is too large.
 fn run_case(s: &[u8]) -> usize
-    ensures { λ r. ⌜ r ≤ length (now (s .entry)) ⌝ }
+    ensures { λ r. ⌜ (r ≢ 0 → r ≡ 12 + Bytes.number 4 (now (s .entry)) 0) × (r ≤ length (now (s .entry))) ⌝ }
 {
     if s.len() < 12 {
         return 0;
@@ -50,6 +53,7 @@ fn run_case(s: &[u8]) -> usize
 
 fn length_at(s: &[u8], i: usize) -> usize
     requires { ⌜ (12 ≤ length (now s)) × (i ≤ 8) ⌝ }
+    ensures { λ r. ⌜ r ≡ Bytes.number 4 (now (s .entry)) i ⌝ }
 {
     rows::read_word(s, i) as usize
 }

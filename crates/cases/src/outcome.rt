@@ -1,5 +1,7 @@
 // What a run leaves: the answer, the registers, and both buffers to their last number.
+ghost use mathlib.Core.Path.{_≡_};
 ghost use Prim.Native.Nat.{_≤_, _<_};
+ghost use Rattle.cases.specs.Strays.{strayOf, straysIn};
 use machine::run::Answer;
 use machine::table::Table;
 use report::lines;
@@ -51,7 +53,7 @@ fn register(table: Table, r: usize)
 
 // 1 for a cell that is not 0, of a register that is not set.
 fn stray(set: bool, cell: u32) -> usize
-    ensures { λ r. ⌜ r ≤ 1 ⌝ }
+    ensures { λ r. ⌜ (r ≡ strayOf set cell) × (r ≤ 1) ⌝ }
 {
     if set {
         0
@@ -62,7 +64,9 @@ fn stray(set: bool, cell: u32) -> usize
     }
 }
 
-fn strays(table: Table) -> usize {
+fn strays(table: Table) -> usize
+    ensures { λ r. ⌜ r ≡ straysIn 448 (table .marks) (table .cells) ⌝ }
+{
     let mut found = 0;
     let mut i = 0;
     while i < 448 {

@@ -1,12 +1,12 @@
 // Runs the sheet on standard input, and prints the paper's lines of the run.
 ghost use mathlib.Core.Path.{_≡_};
-ghost use mathlib.Core.Logic.{_≢_};
-ghost use Prim.Native.Nat.{_≤_, _<_};
+ghost use Prim.Native.Nat.{_*_, _≤_, _<_};
 ghost use lib.ListN.{length};
-ghost use Rattle.model.specs.Run as Run;
+ghost use Rattle.model.specs.Sheet as Sheet;
 ghost use Rattle.model.specs.Refusals.{isRun};
 ghost use Rattle.figures.specs.Room.{largestSheet, recordLength, revealedLength};
 ghost use Rattle.machine.specs.Answers.{outcomeOf};
+ghost use Rattle.table.specs.Ample.{Ample};
 use machine::run;
 use machine::run::Answer;
 use machine::table::Counts;
@@ -65,10 +65,10 @@ fn run_lent(s: &[u8], log: &mut [u32], revealed: &mut [u32])
     );
 }
 
-// The run with buffers that none outgrows: "so 25 and 26 come only from the library".
+// The run with buffers that none outgrows.
 fn run_ample(s: &[u8], log: &mut [u32], revealed: &mut [u32]) -> Answer
     requires { ⌜ (recordLength ≤ length (now log)) × (revealedLength ≤ length (now revealed)) ⌝ }
-    ensures { λ r. ⌜ (outcomeOf r (now (log .exit)) (now (revealed .exit)) ≡ Run.run (now (s .entry)) (now (log .entry)) (now (revealed .entry))) × (r .number ≢ 25) × (r .number ≢ 26) ⌝ }
+    ensures { λ r. ⌜ Ample (now (s .entry)) (now (log .entry)) (now (revealed .entry)) (outcomeOf r (now (log .exit)) (now (revealed .exit))) ⌝ }
 {
     run::run(s, log, revealed)
 }
@@ -81,7 +81,9 @@ fn is_run(answer: u32) -> bool
 }
 
 // The lines before the last of a sheet that is run, which has a header.
-fn run_lines(s: &[u8], spent: Counts, log: &[u32], revealed: &[u32]) {
+fn run_lines(s: &[u8], spent: Counts, log: &[u32], revealed: &[u32])
+    requires { ⌜ (spent .openings * Sheet.headerOf (now s) .n ≤ length (now log)) × (spent .revealed ≤ length (now revealed)) ⌝ }
+{
     let Read::Sheet(f) = header::read_header(s) else {
         return;
     };

@@ -1,18 +1,37 @@
--- `outcome::strays` is safe and ends: at most one is counted for each cell.
+-- `outcome::strays` meets its contract: each turn counts a cell.
 -- Assumes nothing.
-use Prim.Native.Nat.{_-_, _≤_}
+use mathlib.Core.Path.{_≡_, refl, ap, _∙_}
+use mathlib.Core.Bool.{Bool, false}
+use mathlib.Core.List.{List}
+use Prim.Native.Nat.{ℕ, _+_, _-_, _/_, _≤_}
+use native.Mathlib.Numerals.{add-one}
+use native.Mathlib.Omega.{arith}
 use borrow.Author.Needs.{needs}
+use lib.ListN.{getD}
+use Rattle.cases.specs.Strays.{strayOf, straysIn}
 use Rattle.cases.proofs.outcome.strays.Statement.{statement}
 use Rattle.cases.proofs.outcome.strays.Tie as tie
 
 abbrev Inv-loop : tie.InvT-loop
-Inv-loop table found₀ i₀ found i = (found ≤ i) × (i ≤ 448)
+Inv-loop table found₀ i₀ found i = (found ≡ straysIn i (table .marks) (table .cells)) × (found ≤ i) × (i ≤ 448)
 
 abbrev μ-loop : tie.MeasureT-loop
 μ-loop table found₀ i₀ found i = 448 - i
 
+nothing : (marks : List Bool) (cells : List ℕ) → 0 ≡ straysIn 0 marks cells
+unfolding straysIn
+nothing marks cells = refl
+
+more : (marks : List Bool) (cells : List ℕ) (i found v : ℕ) → found ≡ straysIn i marks cells → v ≡ strayOf (getD marks (i / 7) false) (getD cells i 0)
+    → found + v ≡ straysIn (i + 1) marks cells
+unfolding straysIn
+more marks cells i found v e q = rw (add-one, e, q)
+
+at-end : (marks : List Bool) (cells : List ℕ) {i n found : ℕ} → found ≡ straysIn i marks cells → i ≡ n → found ≡ straysIn n marks cells
+at-end marks cells e q = e ∙ ap (λ (i : ℕ). straysIn i marks cells) q
+
 loop-holds : tie.Need-loop-holds Inv-loop μ-loop
-loop-holds c = search needs
+loop-holds c = (nothing _ _, omega arith, omega arith)
 
 element-copy-out-stray : tie.Need-element-copy-out-stray Inv-loop μ-loop
 element-copy-out-stray c = search needs
@@ -36,10 +55,12 @@ loop-less : tie.Need-loop-less Inv-loop μ-loop
 loop-less c = search needs
 
 loop-again : tie.Need-loop-again Inv-loop μ-loop
-loop-again c = search needs
+loop-again c =
+    let at = c .before .before .before .before .loop in
+    (more _ _ (at .i) _ _ (at .inv .0) (c .stray .ensures .0), omega arith, omega arith)
 
 returns : tie.Need-returns Inv-loop μ-loop
-returns c = search needs
+returns c = at-end _ _ (c .before .loop .inv .0) (omega arith)
 
 pub strays-spec : {M : Type 1} → statement M
 strays-spec =
