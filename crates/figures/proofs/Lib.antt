@@ -4,3 +4,4 @@ pub mod Printed
 pub mod Witness
 pub mod TwinSheets
 pub mod Room
+pub mod Largest

@@ -19,6 +19,7 @@ pub mod Masked
 pub mod Held
 pub mod Running
 pub mod LittleEndian
+pub mod Lengths
 pub mod SheetRows
 pub mod SheetDeal
 pub mod Making
@@ -28,6 +29,7 @@ pub mod Balance
 pub mod Formulas
 pub mod Performed
 pub mod Exactness
+pub mod Refusals
 pub mod Tied
 pub mod Trees
 pub mod Twins

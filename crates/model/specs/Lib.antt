@@ -16,5 +16,6 @@ pub mod Shamir
 pub mod Making
 pub mod Results
 pub mod Exactness
+pub mod Refusals
 pub mod Secrecy
 pub mod RealRuns
