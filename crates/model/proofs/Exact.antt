@@ -4,7 +4,7 @@ use mathlib.Core.Path.{_≡_, ap, _∙_}
 use Prim.Native.Nat.{ℕ, suc, _+_, _-_, _*_, _/_, _^_, _≤_, _<_}
 use native.Mathlib.Nat.{mod-eq-of-lt, div-le-self, pow-suc}
 use native.Mathlib.Omega.{arith}
-use lib.Dec.{T, ltb→lt}
+use lib.Dec.{T}
 use lib.IntN.{ℤ, pos, _-ℤ_, _*ℤ_, +ℤ-comm}
 use lib.Pow.{pow-pos, pow-mono, pow-add}
 use lib.Signed.{mag, ltZ, shrZ, mag-shr}
@@ -13,11 +13,8 @@ use Rattle.model.specs.Coding.{inRange, code, readBack}
 use Rattle.model.specs.Plain.{rem, quot, negative, exceeds, charged}
 use Rattle.model.specs.Formulas.{Division, one}
 use Rattle.model.proofs.Fields.{power-inverse}
-use Rattle.model.proofs.Coding.{in-range, code-below, code-floor, read-code, code-read}
+use Rattle.model.proofs.Coding.{in-magnitude, code-below, code-floor, read-code, code-read}
 use Rattle.model.proofs.Signed.{sign-sub, code-sub, floor-is, remainder-is, sign-is}
-
-in-magnitude : (k : ℕ) (a : ℤ) → T (inRange k a) → mag a < 2 ^ (k - 1)
-in-magnitude k a t = ltb→lt (mag a) (2 ^ (k - 1)) (rw in-range at t)
 
 module _ {p l K : ℕ} (F : Field p l K) where
   pub twice-fits : (k : ℕ) → 1 ≤ k → k ≤ K → 2 ^ (k - 1) + 2 ^ (k - 1) < p
@@ -48,7 +45,7 @@ module _ {p l K : ℕ} (F : Field p l K) where
   negative-code : (k : ℕ) (a : ℤ) → 2 ≤ k → k ≤ K → T (inRange k a) → negative p k (code p a) ≡ one (ltZ a (pos 0))
   unfolding negative
   negative-code k a h hk t =
-      let r = in-magnitude k a t in
+      let r = in-magnitude k a .0 t in
       rw (quot-code k (k - 1) a hk (omega arith) r) (sign-is p (2 ^ (k - 1)) a (omega arith) r)
 
   pub negative-read : (k x : ℕ) → 2 ≤ k → k ≤ K → x < p → T (inRange k (readBack p x)) → negative p k x ≡ one (ltZ (readBack p x) (pos 0))
@@ -63,7 +60,7 @@ module _ {p l K : ℕ} (F : Field p l K) where
 
   pub division-read : (k m x : ℕ) → 2 ≤ k → k ≤ K → 1 ≤ m → m < k → x < p → T (inRange k (readBack p x))
       → Division (readBack p x) (2 ^ m) (readBack p (quot p k m x)) (rem p k m x)
-  division-read k m x _ hk _ hm l t = rw (code-read p x l) at (division-code k m (readBack p x) hk hm (in-magnitude k (readBack p x) t))
+  division-read k m x _ hk _ hm l t = rw (code-read p x l) at (division-code k m (readBack p x) hk hm (in-magnitude k (readBack p x) .0 t))
 
   pub exceeds-code : (k : ℕ) (v a : ℤ) → 2 ≤ k → k ≤ K → T (inRange k (v -ℤ a)) → exceeds p k (code p v) (code p a) ≡ one (ltZ v a)
   unfolding exceeds

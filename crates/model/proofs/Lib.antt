@@ -23,6 +23,7 @@ pub mod Lengths
 pub mod SheetRows
 pub mod SheetDeal
 pub mod Making
+pub mod WholeScript
 pub mod Acceptance
 pub mod Written
 pub mod Balance

@@ -120,6 +120,18 @@ not-late e a = apart (sym e ∙ a .script)
     apart : {number place : ℕ} {xs : List Line} {end : ℕ} → refused number place ≡ accepted xs end → ⊥
     apart q = subst told-apart q tt
 
+-- and it has one number and one place
+same-refusal : {c i number place : ℕ} → refused c i ≡ refused number place → (c ≡ number) × (i ≡ place)
+same-refusal {c} {i} e = (ap numberIn e, ap placeIn e)
+  where
+    numberIn : Script → ℕ
+    numberIn (accepted xs end) = c
+    numberIn (refused number place) = number
+
+    placeIn : Script → ℕ
+    placeIn (accepted xs end) = i
+    placeIn (refused number place) = place
+
 -- `isRun` tells the numbers of the one list from those of the other
 or-either : (a b : Bool) → T (a || b) → T a ⊎ T b
 or-either true b t = inl tt
@@ -145,14 +157,16 @@ zero-or (suc number) h = inr (h (λ e. omega arith))
 
 -- of a sheet that is not accepted, and of one that is
 of-input : {s : List ℕ} {number place : ℕ} → (Accepted s → ⊥) → From 1 11 number → From 1 8 number ↔ (sheetNumber s ≢ 0)
-    → (From 1 8 number → (number ≡ sheetNumber s) × (place ≡ 0)) → Numbered s number place
-of-input fails h first at =
+    → (From 1 8 number → (number ≡ sheetNumber s) × (place ≡ 0))
+    → ((c i : ℕ) → sheetNumber s ≡ 0 → sheetScript s ≡ refused c i → (number ≡ c) × (place ≡ i) × From 9 11 c) → Numbered s number place
+of-input fails h first at script =
     record {
       input = (λ _. fails, λ _. h);
       state = (λ z. absurd (⊎-elim (λ e. omega arith) (λ e. omega arith) z), λ a. absurd (fails a));
       is-run = (λ t. absurd (refuses _ (omega arith) t), λ a. absurd (fails a));
       sheet-first = first;
       sheet-place = at;
+      script = script;
     }
 
 of-state : {s : List ℕ} {number place : ℕ} → Accepted s → OfState number → Numbered s number place
@@ -163,6 +177,7 @@ of-state {number = number} a h =
       is-run = (λ _. a, λ _. runs number h);
       sheet-first = (λ z. absurd (both (omega arith) (zero-or number h)), λ fails. absurd (fails (a .number)));
       sheet-place = λ z. absurd (both (omega arith) (zero-or number h));
+      script = λ c i z q. absurd (not-late q a);
     }
   where
     both : From 1 11 number → (number ≡ 0) ⊎ From 21 26 number → ⊥
@@ -173,10 +188,14 @@ numbered s x (by-sheet fails e) =
     let n : x .number ≡ sheetNumber s = ap (λ (x : Stop). x .number) e in
     let h : From 1 8 (sheetNumber s) = omega (arith, sheet-low s) in
     of-input (λ a. fails (a .number)) (omega arith) (λ _. fails, λ _. rw n h) (λ _. (n, ap (λ (x : Stop). x .place) e))
+    (λ c i z q. absurd (fails z))
 numbered s x (by-script z q e) =
     let n = ap (λ (x : Stop). x .number) e in
     let h = script-late _ _ _ q in
     of-input (not-late q) (omega arith) (λ l. absurd (omega arith), λ fails. absurd (fails z)) (λ l. absurd (omega arith))
+    (λ c i z′ q′.
+    let r = same-refusal (sym q ∙ q′) in
+    (n ∙ r .0, ap (λ (x : Stop). x .place) e ∙ r .1, script-late _ _ _ q′))
 numbered s x (by-run a h) = of-state a h
 
 pub numbers : Numbers

@@ -4,7 +4,7 @@ use mathlib.Core.Path.{_≡_}
 use mathlib.Core.Logic.{_↔_}
 use mathlib.Core.Bool.{Bool, _&&_}
 use mathlib.Core.List.{[], _∷_}
-use Prim.Native.Nat.{ℕ, zero, suc, _+_, _*_, _/_, _%_, _^_, _≤_, _<_}
+use Prim.Native.Nat.{ℕ, zero, suc, _+_, _-_, _*_, _/_, _%_, _^_, _≤_, _<_}
 use lib.Dec.{T, leb}
 use lib.ListN.{getD}
 use Rattle.algebra.specs.Ring.{mul}
@@ -46,9 +46,11 @@ pub record Modulus (p : ℕ) : Type 0 where
 pub record Field (p l k : ℕ) : Type 0 where
   pub modulus-is : Modulus p
   pub bits-hold : p < 2 ^ l
+  pub bits-needed : 2 ^ (l - 1) < p
   pub range-fits : 2 ^ k < p
   pub k-least : 2 ≤ k
   pub k-most : k < 31
+  pub k-is : suc k ≡ l
 
 -- "Parties: 3 to 7, threshold t at least 1, 2t + 1 at most n."
 pub record Parties (n t : ℕ) : Type 0 where
@@ -68,4 +70,4 @@ PartiesTested = (n t : ℕ) → T (parties n t) ↔ Parties n t
 -- Every field of the table has the facts of `Field`, and there `inversePowerOf2` is the inverse of 2^m.
 pub record EveryField : Type 0 where
   pub field : (f : ℕ) → f < 4 → Field (modulus f) (bits f) (largestK f)
-  pub halves : (f m : ℕ) → f < 4 → mul (modulus f) (powerOf2 (modulus f) m) (inversePowerOf2 (modulus f) m) ≡ 1
+  pub inverses : (f m : ℕ) → f < 4 → mul (modulus f) (powerOf2 (modulus f) m) (inversePowerOf2 (modulus f) m) ≡ 1

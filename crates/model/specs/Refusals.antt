@@ -8,8 +8,10 @@ use mathlib.Core.List.{List}
 use Prim.Native.Nat.{ℕ, _≤_}
 use lib.Dec.{T, eqb, leb}
 use lib.ListN.{replicate}
+use Rattle.model.specs.Deal.{noRow}
+use Rattle.model.specs.Script.{refused}
 use Rattle.model.specs.Sheet.{sheetNumber}
-use Rattle.model.specs.Run.{Outcome, noRow, stopOf, run}
+use Rattle.model.specs.Run.{Outcome, sheetScript, stopOf, run}
 use Rattle.model.specs.Exactness.{Accepted}
 
 -- Whether a number is one of a sheet that is run: 0, or one of "Refused because of the state", which start at 21. All numbers below are kept
@@ -32,6 +34,8 @@ pub record Numbered (sheet : List ℕ) (number place : ℕ) : Type 0 where
   pub sheet-first : From 1 8 number ↔ (sheetNumber sheet ≢ 0)
   -- "The place is 0 for 1 to 8"
   pub sheet-place : From 1 8 number → (number ≡ sheetNumber sheet) × (place ≡ 0)
+  -- and then the script: "for 9 to 11 the command's offset in the script, the script length if END is missing, or the offset just after END"
+  pub script : (c i : ℕ) → sheetNumber sheet ≡ 0 → sheetScript sheet ≡ refused c i → (number ≡ c) × (place ≡ i) × From 9 11 c
 
 -- for every sheet, with buffers of any lengths: how its run stops, and its outcome
 pub record Numbers : Type 0 where

@@ -1,5 +1,6 @@
 -- The paper, the table of commands: what the bytes of a script say, and the refusals 9 to 11 of a whole script with their places.
 -- Assumes nothing.
+use mathlib.Core.Path.{_≡_}
 use mathlib.Core.Bool.{Bool, true, _&&_, cond}
 use mathlib.Core.List.{List, [], _∷_}
 use Prim.Native.Nat.{ℕ, zero, suc, _+_, _^_}
@@ -115,3 +116,7 @@ scriptFrom (suc most) p K s i = scriptStep (numberAt p K s i) s i (scriptFrom mo
 -- from the script's start
 unfoldable pub scriptOf : ℕ → ℕ → List ℕ → Script
 scriptOf p K s = scriptFrom (suc (length s)) p K s 0
+
+-- so many commands are enough for every script: more would be read alike
+abbrev pub WholeScript : Type 0
+WholeScript = (p K more : ℕ) (s : List ℕ) → scriptFrom (more + suc (length s)) p K s 0 ≡ scriptOf p K s
