@@ -33,7 +33,7 @@ code-small p (pos n) h = mod-eq-of-lt h
 code-small p (negsuc n) h = rw (mod-eq-of-lt h) (omega arith)
 
 -- a difference that is negative
-below-zero : (a b n : ℕ) → b ≡ a + suc n → subℕ a b ≡ negsuc n
+pub below-zero : (a b n : ℕ) → b ≡ a + suc n → subℕ a b ≡ negsuc n
 below-zero a b n e = rw (lt-ltb a b (omega arith)) (ap negsuc (omega arith))
 
 -- a value up to the middle, and one past it

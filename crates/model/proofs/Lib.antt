@@ -13,6 +13,7 @@ pub mod Comparing
 pub mod Unmasking
 pub mod Signed
 pub mod Exact
+pub mod Dividing
 pub mod Shared
 pub mod Taking
 pub mod Masked

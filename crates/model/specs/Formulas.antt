@@ -21,6 +21,10 @@ pub record Division (z : ℤ) (M : ℕ) (q : ℤ) (r : ℕ) : Type 0 where
   pub is : z ≡ q *ℤ pos M +ℤ pos r
   pub small : r < M
 
+-- This fixes both.
+abbrev pub OneDivision : Type 0
+OneDivision = (z : ℤ) (M : ℕ) (q q′ : ℤ) (r r′ : ℕ) → Division z M q r → Division z M q′ r′ → (q ≡ q′) × (r ≡ r′)
+
 -- 1 if the test passes, else 0
 abbrev pub one : Bool → ℕ
 one b = cond b 1 0
