@@ -1,9 +1,10 @@
-//! The whole set of cases: chosen edges of each entry, then generated cases.
+//! The whole set of cases: chosen edges of each entry, the cases of the model's table, then generated cases.
 
 mod decode_edges;
 mod encode_edges;
 mod generated;
 pub mod generator;
+pub mod held;
 mod recover_edges;
 mod share_edges;
 
@@ -35,6 +36,7 @@ pub fn all() -> Vec<Case> {
     cases.extend(recover_edges::all());
     cases.extend(encode_edges::all());
     cases.extend(decode_edges::all());
+    cases.extend(held::all().into_iter().map(|(_, case)| case));
     cases.extend(generated::all());
     cases
 }
@@ -143,7 +145,7 @@ mod tests {
     #[test]
     fn number_of_cases_is_within_bounds() {
         let count = all().len();
-        assert!((400..=800).contains(&count), "{count}");
+        assert!((400..=1_000).contains(&count), "{count}");
     }
 
     #[test]

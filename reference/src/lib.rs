@@ -7,6 +7,7 @@ pub mod compare;
 pub mod dealer;
 pub mod field;
 pub mod line;
+pub mod model_cases;
 pub mod refusal;
 pub mod row;
 pub mod run;

@@ -3,11 +3,11 @@
 use std::io::{self, Read, Write};
 use std::process::ExitCode;
 
-use reference::{case, cases, line, run_case, sheets, steps, table};
+use reference::{case, cases, line, model_cases, run_case, sheets, steps, table};
 
 const USAGE: &str = "usage: reference WORD [NAME]    (reference --help says what each word does)";
 
-/// NAMES stands for the names of the examples.
+/// TABLES stands for the names of the model's tables, NAMES for those of the examples.
 const HELP: &str = "\
 usage: reference WORD [NAME]
 
@@ -19,6 +19,7 @@ step-cases       writes the stored cases of the steps
 step-answers     writes the answers to those
 run-cases        writes the stored sheets, each with the lengths of its lent buffers
 run-answers      reads such sheets and writes all that each run leaves
+model-cases NAME writes one of the model's tables of cases; the names are TABLES
 table            reads a sheet and writes the lines of its run
 example NAME     writes an example sheet; the names are NAMES
 largest          writes a sheet that reaches every limit
@@ -42,14 +43,15 @@ fn main() -> ExitCode {
         ["step-answers"] => step_answers(),
         ["run-cases"] => write_out(&all_bytes(&sheets::stored::all(), |case| case.to_bytes())),
         ["run-answers"] => run_answers(),
+        ["model-cases", name] => model_table(name),
         ["table"] => read_in().and_then(|sheet| write_out(table::lines(&sheet).as_bytes())),
         ["example", name] => example(name),
         ["largest"] => write_out(&sheets::bench::largest()),
         ["gate-sheets"] => write_out(gate_names().as_bytes()),
         ["gate-sheet", name] => gate_sheet(name),
-        ["--help"] => write_out(HELP.replace("NAMES", &example_names()).as_bytes()),
+        ["--help"] => write_out(help().as_bytes()),
         [] => return refuse("a word is missing"),
-        ["example" | "gate-sheet"] => return refuse(&format!("{}: the NAME is missing", words[0])),
+        ["example" | "gate-sheet" | "model-cases"] => return refuse(&format!("{}: the NAME is missing", words[0])),
         _ => return refuse(&format!("not understood: {}", words.join(" "))),
     };
     match outcome {
@@ -103,6 +105,13 @@ fn run_answers() -> Result<(), String> {
     write_out(lines.as_bytes())
 }
 
+fn model_table(name: &str) -> Result<(), String> {
+    let names = model_cases::NAMES.join(", ");
+    let text = model_cases::text(name)
+        .ok_or_else(|| format!("no table {name}; the tables are {names}"))?;
+    write_out(text.as_bytes())
+}
+
 fn example(name: &str) -> Result<(), String> {
     let names = example_names();
     let sheet = sheets::examples::named(name)
@@ -123,6 +132,11 @@ fn gate_sheet(name: &str) -> Result<(), String> {
 fn gate_names() -> String {
     let sheets = sheets::gate::all();
     sheets.iter().map(|(name, _)| format!("{name}\n")).collect()
+}
+
+fn help() -> String {
+    HELP.replace("TABLES", &model_cases::NAMES.join(", "))
+        .replace("NAMES", &example_names())
 }
 
 fn read_in() -> Result<Vec<u8>, String> {

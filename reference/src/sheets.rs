@@ -7,6 +7,7 @@ pub mod examples;
 mod fault;
 pub mod gate;
 mod good;
+pub mod held;
 pub mod stored;
 mod wrong;
 

@@ -4,13 +4,13 @@ use mathlib.Core.Path.{refl}
 use Rattle.algebra.specs.Ring.{add, sub, mul}
 use Rattle.algebra.specs.Lists.{from}
 use Rattle.algebra.specs.Rows.{tab, row}
-use Rattle.model.specs.Fields.{inverse, inversePowerOf2}
-use Rattle.model.specs.Coding.{code}
+use Rattle.model.specs.Fields.{modulus, bits, inverse, inversePowerOf2}
+use Rattle.model.specs.Coding.{code, readBack}
 use Rattle.model.specs.Sharing.{eval, share, newton, reciprocal, slope, interpolate, recover, secret}
 use Rattle.model.specs.Steps.{plus, minus, times, constant, value, beaver, product, comparisonFrom, comparison, spelled, unmasked, remainder, floor, sign, over, blocks}
 use Rattle.model.specs.Costs.{cost}
 use Rattle.figures.specs.Figures.{figures, Figures}
 
 pub figures-hold : Figures
-unfolding add sub mul from tab row inverse inversePowerOf2 code eval share newton reciprocal slope interpolate recover secret plus minus times constant value beaver product comparisonFrom comparison spelled unmasked remainder floor sign over blocks cost figures
-figures-hold = refl
+unfolding add sub mul from tab row modulus bits inverse inversePowerOf2 code readBack eval share newton reciprocal slope interpolate recover secret plus minus times constant value beaver product comparisonFrom comparison spelled unmasked remainder floor sign over blocks cost figures
+figures-hold = record { rows = refl; minus-two = refl }

@@ -3,20 +3,24 @@
 use mathlib.Core.Path.{_≡_}
 use mathlib.Core.List.{List, [], _∷_, map}
 use Prim.Native.Nat.{ℕ}
-use lib.IntN.{ℤ, negsuc}
+use lib.IntN.{ℤ, pos, negℤ}
 use lib.ListN.{length, replicate}
-use Rattle.model.specs.Coding.{code}
+use Rattle.model.specs.Fields.{modulus, bits}
+use Rattle.model.specs.Coding.{code, readBack}
 use Rattle.model.specs.Sharing.{share}
 use Rattle.model.specs.Steps.{Setting, Row, Deal, Step, value, stepC, stepF, stepU, comparison, remainder, floor, sign, over, blocks}
 use Rattle.model.specs.Script.{LTZ}
 use Rattle.model.specs.Costs.{cost}
 
--- fields 0 and 2, three parties, threshold 1
+-- the field of a number with three parties, threshold 1; fields 0 and 2
+abbrev pub inField : ℕ → Setting
+inField f = record { p = modulus f; l = bits f; n = 3; t = 1 }
+
 abbrev pub small : Setting
-small = record { p = 13; l = 4; n = 3; t = 1 }
+small = inField 0
 
 abbrev pub large : Setting
-large = record { p = 65521; l = 16; n = 3; t = 1 }
+large = inField 2
 
 -- a sharing of v, and of the code of a signed number
 abbrev pub of : Setting → ℕ → Row
@@ -70,16 +74,16 @@ unfoldable pub figures : List Figure
 figures =
     -- MOD m=1, −3, r = 12: C 0, f 1, u 0, result 1
     figure
-    (stepC small 3 (ofSigned small (negsuc 2)) with12 ∷ result small (stepF small 3 (ofSigned small (negsuc 2)) with12)
-    ∷ value small (stepU small 3 1 (ofSigned small (negsuc 2)) with12) ∷ result small (remainder small 3 1 (ofSigned small (negsuc 2)) with12) ∷ [])
+    (stepC small 3 (ofSigned small (negℤ (pos 3))) with12 ∷ result small (stepF small 3 (ofSigned small (negℤ (pos 3))) with12)
+    ∷ value small (stepU small 3 1 (ofSigned small (negℤ (pos 3))) with12) ∷ result small (remainder small 3 1 (ofSigned small (negℤ (pos 3))) with12) ∷ [])
     (0 ∷ 1 ∷ 0 ∷ 1 ∷ [])
     -- TRUNC m=1, −3: −2, that is 11; and 3: 1
-    ∷ figure (result small (floor small 3 1 (ofSigned small (negsuc 2)) with5) ∷ []) (11 ∷ [])
+    ∷ figure (result small (floor small 3 1 (ofSigned small (negℤ (pos 3))) with5) ∷ []) (11 ∷ [])
     ∷ figure (result small (floor small 3 1 (of small 3) with5) ∷ []) (1 ∷ [])
     -- MOD m=2, −1: 3
-    ∷ figure (result small (remainder small 3 2 (ofSigned small (negsuc 0)) with5) ∷ []) (3 ∷ [])
+    ∷ figure (result small (remainder small 3 2 (ofSigned small (negℤ (pos 1))) with5) ∷ []) (3 ∷ [])
     -- LTZ −4, −1: 1, 1; LTZ 0, 3: 0, 0; LTZ of 4, out of range: 12
-    ∷ figure (result small (sign small 3 (ofSigned small (negsuc 3)) with5) ∷ result small (sign small 3 (ofSigned small (negsuc 0)) with5) ∷ []) (1 ∷ 1 ∷ [])
+    ∷ figure (result small (sign small 3 (ofSigned small (negℤ (pos 4))) with5) ∷ result small (sign small 3 (ofSigned small (negℤ (pos 1))) with5) ∷ []) (1 ∷ 1 ∷ [])
     ∷ figure (result small (sign small 3 (of small 0) with5) ∷ result small (sign small 3 (of small 3) with5) ∷ []) (0 ∷ 0 ∷ [])
     ∷ figure (result small (sign small 3 (of small 4) with5) ∷ []) (12 ∷ [])
     -- BITLT w=3, v=5, bits of 6, of 5: 1, 0; BITLT w=1, v=0, bit 1: 1, no triple
@@ -100,11 +104,16 @@ figures =
     (2 ∷ 2 ∷ 0 ∷ [])
     -- LTZ k=15 in field 2: 42 triples, 85 openings; so much is counted, and so much is opened and gone from the deal
     ∷ figure
-    (cost 16 (LTZ 0 0 15) .triples ∷ cost 16 (LTZ 0 0 15) .openings ∷ length (sign large 15 (of large 1) wide .opened)
+    (cost (large .l) (LTZ 0 0 15) .triples ∷ cost (large .l) (LTZ 0 0 15) .openings ∷ length (sign large 15 (of large 1) wide .opened)
     ∷ length (sign large 15 (of large 1) wide .deal .triples) ∷ length (sign large 15 (of large 1) wide .deal .masks) ∷ [])
     (42 ∷ 85 ∷ 85 ∷ 0 ∷ 0 ∷ [])
     ∷ []
 
--- "The P rows, gathered in one table and one claim."
-abbrev pub Figures : Type 0
-Figures = map (λ f. f .computed) figures ≡ map (λ f. f .printed) figures
+-- what the definitions give is what the paper prints, row by row
+abbrev pub Computes : List Figure → Type 0
+Computes rows = map (λ f. f .computed) rows ≡ map (λ f. f .printed) rows
+
+-- "The P rows, gathered in one table and one claim." TRUNC m=1, −3 is "−2, that is 11": the table has 11, and 11 reads back as −2.
+pub record Figures : Type 0 where
+  pub rows : Computes figures
+  pub minus-two : readBack (small .p) (result small (floor small 3 1 (ofSigned small (negℤ (pos 3))) with5)) ≡ negℤ (pos 2)

@@ -1,5 +1,6 @@
 pub mod Figures
 pub mod Printed
 pub mod Witness
+pub mod Commanded
 pub mod TwinSheets
 pub mod Room

@@ -42,3 +42,4 @@ pub mod Veil
 pub mod MadeSheets
 pub mod Secrecy
 pub mod RealRuns
+pub mod Cases

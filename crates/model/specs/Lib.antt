@@ -19,3 +19,10 @@ pub mod Exactness
 pub mod Refusals
 pub mod Secrecy
 pub mod RealRuns
+pub mod CaseForms
+pub mod SheetCases
+pub mod ScriptCases
+pub mod RunCases
+pub mod MaskCases
+pub mod EntryCases
+pub mod Cases

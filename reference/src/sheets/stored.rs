@@ -11,6 +11,7 @@ mod stops;
 
 use super::bench;
 use super::draft::Draft;
+use super::held;
 use crate::cases::generator::Generator;
 use crate::dealer::Dealer;
 use crate::run_case::{Case, LONGEST_RECORD, LONGEST_REVEALED};
@@ -27,6 +28,7 @@ pub fn all() -> Vec<Case> {
     cases.extend(spoiled::all(&mut generator));
     cases.extend(scripts::all(&mut generator));
     cases.extend(stops::all(&mut generator));
+    cases.extend(held::cases());
     cases.extend(drawn::all());
     cases.push(largest());
     cases
@@ -81,7 +83,7 @@ mod tests {
     #[test]
     fn answers_are_within_bounds() {
         let cases = all();
-        assert!((400..=620).contains(&cases.len()), "{}", cases.len());
+        assert!((400..=1_000).contains(&cases.len()), "{}", cases.len());
         let length: usize = cases.iter().map(|case| lines(case).len()).sum();
         assert!(length < 800_000, "{length}");
     }

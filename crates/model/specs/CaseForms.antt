@@ -1,0 +1,92 @@
+-- The forms of the rows in SheetCases, ScriptCases, RunCases, MaskCases and EntryCases: what the definitions give, and what the paper says.
+-- Assumes nothing.
+use mathlib.Core.Path.{_≡_}
+use mathlib.Core.Bool.{Bool, true, false, cond}
+use mathlib.Core.List.{List, [], _∷_, _++_, map}
+use Prim.Native.Nat.{ℕ, suc}
+use lib.IntN.{ℤ, pos}
+use lib.ListN.{length, replicate}
+use Rattle.algebra.specs.Lists.{sameList}
+use Rattle.model.specs.Entries.{shareNumber, shareLeft, recoverNumber, recoverValue, recoverLeft, encodeNumber, encodeValue, decodeNumber, decodeValue}
+use Rattle.model.specs.Steps.{Row}
+use Rattle.model.specs.Sheet.{shareBytes}
+use Rattle.model.specs.Run.{Outcome, run, noRow}
+
+-- a register that is set, its number before its cells; one that is unset is left out where its cells are 0
+abbrev pub oneSeen : ℕ → Bool → Row → List (List ℕ)
+oneSeen r true x = (r ∷ x) ∷ []
+oneSeen r false x = cond (sameList x noRow) [] (x ∷ [])
+
+unfoldable pub registersSeen : ℕ → List Bool → List Row → List (List ℕ)
+registersSeen r [] rows = []
+registersSeen r (mark ∷ marks) [] = []
+registersSeen r (mark ∷ marks) (x ∷ rows) = oneSeen r mark x ++ registersSeen (suc r) marks rows
+
+-- all that a run leaves: number, place, inputs, masks, triples and openings; the record; the revealed list; the registers
+unfoldable pub seen : Outcome → List (List ℕ)
+seen x =
+    (x .number ∷ x .place ∷ x .inputs ∷ x .masks ∷ x .triples ∷ x .openings ∷ []) ∷ x .log ∷ x .revealed
+    ∷ registersSeen 0 (x .marks) (x .registers)
+
+-- a run, and what the paper says that it leaves
+pub record Case : Type 0 where
+  pub computed : List (List ℕ)
+  pub told : List (List ℕ)
+
+-- A sheet by its header's bytes, its script and its shares, run with a record and a revealed list of these lengths, each filled with 99.
+abbrev pub ran : List ℕ → List ℕ → List ℕ → ℕ → ℕ → List (List ℕ) → Case
+ran header script shares log shown told =
+    record { computed = seen (run (header ++ (script ++ shareBytes shares)) (replicate log 99) (replicate shown 99)); told = told }
+
+-- A run that leaves nothing but its number and place: the counts are 0, both buffers keep their contents and no register is set. Of a
+-- refused input: "Nothing is run. Both output buffers keep their contents, all registers are unset, all counts 0."
+abbrev pub stopped : List ℕ → List ℕ → List ℕ → ℕ → ℕ → Case
+stopped header script shares number place =
+    ran header script shares 3 1 ((number ∷ place ∷ 0 ∷ 0 ∷ 0 ∷ 0 ∷ []) ∷ (99 ∷ 99 ∷ 99 ∷ []) ∷ (99 ∷ []) ∷ [])
+
+-- the same of a script in field f, with n = 3 and t = 1 and no row
+abbrev pub scripted : ℕ → List ℕ → ℕ → ℕ → Case
+scripted f script number place = stopped (f ∷ 3 ∷ 1 ∷ 0 ∷ 0 ∷ 0 ∷ 0 ∷ 0 ∷ 0 ∷ length script ∷ 0 ∷ []) script [] number place
+
+-- the definitions give what the paper says, row by row
+abbrev pub Hold : List Case → Type 0
+Hold cases = map (λ c. c .computed) cases ≡ map (λ c. c .told) cases
+
+-- what an entry answers, 0 being the value of share, and the lent list that it leaves, which encode and decode do not have
+pub record Answer : Type 0 where
+  pub number : ℕ
+  pub value : ℤ
+  pub left : List ℕ
+
+abbrev pub answer : ℕ → ℤ → List ℕ → Answer
+answer number value left = record { number = number; value = value; left = left }
+
+-- a call of an entry, and what the paper says that it answers
+pub record Entry : Type 0 where
+  pub computed : Answer
+  pub told : Answer
+
+-- share with field, n, t, secret and coefficients; recover with field, n, t and shares. The lent list has this length and is filled with 99.
+abbrev pub shared : ℕ → ℕ → ℕ → ℕ → List ℕ → ℕ → ℕ → List ℕ → Entry
+shared f n t s cs lent number left =
+    let out : List ℕ = replicate lent 99 in
+    record { computed = answer (shareNumber f n t s cs out) (pos 0) (shareLeft f n t s cs out); told = answer number (pos 0) left }
+
+abbrev pub recovered : ℕ → ℕ → ℕ → List ℕ → ℕ → ℕ → ℤ → List ℕ → Entry
+recovered f n t xs lent number value left =
+    let out : List ℕ = replicate lent 99 in
+    record {
+      computed = answer (recoverNumber f n t xs out) (pos (recoverValue f n t xs out)) (recoverLeft f n t xs out);
+      told = answer number value left;
+    }
+
+-- encode with field, k and number; decode with field and value
+abbrev pub encoded : ℕ → ℕ → ℤ → ℕ → ℤ → Entry
+encoded f k a number value =
+    record { computed = answer (encodeNumber f k a) (pos (encodeValue f k a)) []; told = answer number value [] }
+
+abbrev pub decoded : ℕ → ℕ → ℕ → ℤ → Entry
+decoded f v number value = record { computed = answer (decodeNumber f v) (decodeValue f v) []; told = answer number value [] }
+
+abbrev pub EntriesHold : List Entry → Type 0
+EntriesHold entries = map (λ e. e .computed) entries ≡ map (λ e. e .told) entries

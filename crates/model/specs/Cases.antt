@@ -1,0 +1,42 @@
+-- The definitions held by computed cases: numbers, places, orders, limits, ranges and operands, which the theorems take as given.
+-- Assumes nothing.
+use mathlib.Core.Path.{_≡_}
+use mathlib.Core.Bool.{Bool, true, false}
+use mathlib.Core.List.{List, [], _∷_}
+use Prim.Native.Nat.{ℕ}
+use Rattle.model.specs.Costs.{Cost}
+use Rattle.model.specs.Run.{check}
+use Rattle.model.specs.CaseForms.{Hold, EntriesHold}
+use Rattle.model.specs.SheetCases.{sheetCases}
+use Rattle.model.specs.ScriptCases.{scriptCases}
+use Rattle.model.specs.RunCases.{runCases}
+use Rattle.model.specs.MaskCases.{maskCases}
+use Rattle.model.specs.EntryCases.{entryCases}
+
+-- "Tried before a command changes anything, in this order": 21 to 26. No command takes both an input row and a mask, so no sheet shows where 22
+-- stands in the order. Here a command reads register 0 and takes one of everything.
+abbrev pub taking : Cost
+taking = record { reads = 0 ∷ []; writes = []; inputs = 1; masks = 1; triples = 1; openings = 1; revealed = 1 }
+
+-- its number with three parties, register 0 being set or not, and so many input rows, masks and triples, and room in record and revealed list
+abbrev pub checked : Bool → ℕ → ℕ → ℕ → ℕ → ℕ → ℕ
+checked mark inputs masks triples log shown =
+    check (record { inputs = inputs; masks = masks; triples = triples; parties = 3; log = log; shown = shown }) taking
+    (record { inputs = 0; masks = 0; triples = 0; openings = 0; revealed = 0; marks = mark ∷ [] })
+
+-- each number before all those after it, and then alone
+unfoldable pub checks : List ℕ
+checks =
+    checked false 0 0 0 0 0 ∷ checked true 0 0 0 0 0 ∷ checked true 1 0 0 0 0 ∷ checked true 1 1 0 0 0 ∷ checked true 1 1 1 2 0
+    ∷ checked true 1 1 1 3 0 ∷ checked true 1 1 1 3 1 ∷ checked false 1 1 1 3 1 ∷ checked true 0 1 1 3 1 ∷ checked true 1 0 1 3 1
+    ∷ checked true 1 1 0 3 1 ∷ checked true 1 1 1 2 1 ∷ []
+
+-- Each row of the five tables computes to what the paper says of it. The reference, a separately written program, writes the tables, and
+-- the proved programs `cases` and `entries` answer the same sheets and calls.
+pub record Cases : Type 0 where
+  pub sheets : Hold sheetCases
+  pub scripts : Hold scriptCases
+  pub runs : Hold runCases
+  pub masked : Hold maskCases
+  pub order : checks ≡ 21 ∷ 22 ∷ 23 ∷ 24 ∷ 25 ∷ 26 ∷ 0 ∷ 21 ∷ 22 ∷ 23 ∷ 24 ∷ 25 ∷ []
+  pub entries : EntriesHold entryCases

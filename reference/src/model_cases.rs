@@ -1,0 +1,330 @@
+//! The text of the model's tables of cases (crates/model/specs), with the answers that this crate computes.
+
+use crate::case::{Case, RecoverCase, ShareCase};
+use crate::cases::held as calls;
+use crate::sharing::{recover, share};
+use crate::sheets::held::{self as sheets, Held, Left};
+use crate::signed::{decode, encode};
+
+pub const NAMES: [&str; 5] = [
+    "SheetCases",
+    "ScriptCases",
+    "RunCases",
+    "MaskCases",
+    "EntryCases",
+];
+
+/// No line of a table is longer, but for a long comment.
+const WIDTH: usize = 140;
+
+/// From so many equal numbers on, a list is written with replicate.
+const RUN: usize = 10;
+
+/// A row's comment, and its parts, which stand on one line if they fit.
+type Row = (&'static str, Vec<String>);
+
+/// The file with this name.
+pub fn text(name: &str) -> Option<String> {
+    match name {
+        "SheetCases" => Some(file(
+            "\"Refused because of the input\": sheets that 1 to 8 refuse, and the last that they let through.",
+            ("Case", "sheetCases"),
+            sheet_rows(&sheets::sheets()),
+        )),
+        "ScriptCases" => Some(file(
+            "\"Refused because of the input\": scripts that 9 to 11 refuse, and the last that they let through.",
+            ("Case", "scriptCases"),
+            sheet_rows(&sheets::scripts()),
+        )),
+        "RunCases" => Some(file(
+            "\"Steps\" and \"Refused because of the state\": the commands that take no mask, and 21 to 26.",
+            ("Case", "runCases"),
+            sheet_rows(&sheets::runs()),
+        )),
+        "MaskCases" => Some(file(
+            "\"Steps\": the commands that take a mask, with the rows that they open.",
+            ("Case", "maskCases"),
+            sheet_rows(&sheets::masked()),
+        )),
+        "EntryCases" => Some(file(
+            "\"Fields and parties\": calls of the small entries, and what they answer.",
+            ("Entry", "entryCases"),
+            calls::all()
+                .iter()
+                .map(|(says, call)| (*says, vec![entry(call)]))
+                .collect(),
+        )),
+        _ => None,
+    }
+}
+
+fn file(subject: &str, (kind, name): (&str, &str), rows: Vec<Row>) -> String {
+    let body = body(rows);
+    let used = |words: &[&'static str]| -> String {
+        let used = words.iter().filter(|&&word| has_word(&body, word));
+        used.map(|word| format!(", {word}")).collect()
+    };
+    let mut text = format!(
+        "-- The paper, {subject}\n\
+         -- The reference writes this table (reference model-cases).\n\
+         -- Assumes nothing.\n\
+         use mathlib.Core.List.{{List, [], _∷_{}}}\n",
+        if has_word(&body, "++") { ", _++_" } else { "" }
+    );
+    if has_word(&body, "pos") {
+        text += &format!("use lib.IntN.{{pos{}}}\n", used(&["negℤ"]));
+    }
+    if has_word(&body, "replicate") {
+        text += "use lib.ListN.{replicate}\n";
+    }
+    let forms = used(&[
+        "ran",
+        "stopped",
+        "scripted",
+        "shared",
+        "recovered",
+        "encoded",
+        "decoded",
+    ]);
+    text += &format!("use Rattle.model.specs.CaseForms.{{{kind}{forms}}}\n\n");
+    text + &format!("unfoldable pub {name} : List {kind}\n{name} =\n{body}    ∷ []\n")
+}
+
+fn has_word(text: &str, word: &str) -> bool {
+    text.split([' ', '(', ')', '\n']).any(|found| found == word)
+}
+
+/// Rows with the same comment stand under it together.
+fn body(rows: Vec<Row>) -> String {
+    let mut body = String::new();
+    let mut said = "";
+    let mut first = true;
+    for (says, mut parts) in rows {
+        if says != said {
+            body += &format!("    -- {says}\n");
+            said = says;
+        }
+        if !first {
+            parts[0].insert_str(0, "∷ ");
+        }
+        first = false;
+        let line = parts.join(" ");
+        if line.chars().count() <= WIDTH - 4 {
+            parts = vec![line];
+        }
+        body.extend(parts.iter().map(|part| wrapped(part)));
+    }
+    body
+}
+
+/// Lines are broken before an operator.
+fn wrapped(part: &str) -> String {
+    let part = part.replace("∷ ", "∷_").replace("++ ", "++_");
+    let mut text = String::new();
+    let mut line = String::from("   ");
+    for word in part.split(' ') {
+        if line.chars().count() + 1 + word.chars().count() > WIDTH {
+            text += &format!("{line}\n");
+            line = String::from("   ");
+        }
+        line += &format!(" {word}");
+    }
+    text += &format!("{line}\n");
+    text.replace("∷_", "∷ ").replace("++_", "++ ")
+}
+
+fn sheet_rows(all: &[Held]) -> Vec<Row> {
+    all.iter()
+        .map(|held| (held.says, sheet_row(held)))
+        .collect()
+}
+
+/// A run that did nothing is told by its number and place.
+fn sheet_row(held: &Held) -> Vec<String> {
+    let left = held.left();
+    let (number, place) = (left.answer.number, left.answer.place);
+    let (header, script, shares) = (list(&held.header), list(&held.script), list(&held.shares));
+    if !is_untouched(held, &left) {
+        let (record, revealed) = (held.record, held.revealed);
+        return vec![
+            format!("ran {header} {script}"),
+            format!("{shares} {record} {revealed}"),
+            told(&left),
+        ];
+    }
+    if held.shares.is_empty() && header == list(&plain_header(held)) {
+        let field = held.header[0];
+        return vec![format!("scripted {field} {script} {number} {place}")];
+    }
+    vec![
+        format!("stopped {header} {script}"),
+        format!("{shares} {number} {place}"),
+    ]
+}
+
+/// The header of a script in the sheet's field for three parties, threshold 1, without rows.
+fn plain_header(held: &Held) -> Vec<u8> {
+    let field = held.header.first().copied().unwrap_or(0);
+    vec![field, 3, 1, 0, 0, 0, 0, 0, 0, held.script.len() as u8, 0]
+}
+
+/// Three numbers and one were lent, and nothing is counted, set or written.
+fn is_untouched(held: &Held, left: &Left) -> bool {
+    let answer = &left.answer;
+    let counts = [answer.inputs, answer.masks, answer.triples, answer.openings];
+    (held.record, held.revealed) == (3, 1)
+        && counts == [0; 4]
+        && !answer.set.contains(&true)
+        && left
+            .record
+            .iter()
+            .chain(&left.revealed)
+            .all(|&x| x == sheets::FILLING)
+}
+
+/// Number, place and counts; the record; the revealed list; each set register's number and cells.
+fn told(left: &Left) -> String {
+    let answer = &left.answer;
+    let counts = [
+        answer.place,
+        answer.inputs,
+        answer.masks,
+        answer.triples,
+        answer.openings,
+    ];
+    let mut end = vec![answer.number as usize];
+    end.extend(counts);
+    let mut lists = vec![list(&end), list(&left.record), list(&left.revealed)];
+    for (register, cells) in answer.registers.iter().enumerate() {
+        if answer.set[register] {
+            lists.push(list(&[&[register as u32], cells.as_slice()].concat()));
+        }
+    }
+    format!("({} ∷ [])", lists.join(" ∷ "))
+}
+
+fn entry(call: &Case) -> String {
+    match call {
+        Case::Share(call) => shared(call),
+        Case::Recover(call) => recovered(call),
+        Case::Encode { field, k, a } => {
+            let (number, value) = encode(*field, *k, *a);
+            let (a, value) = (signed(*a), signed(value.into()));
+            format!("encoded {field} {k} {a} {number} {value}")
+        }
+        Case::Decode { field, v } => {
+            let (number, value) = decode(*field, *v);
+            format!("decoded {field} {v} {number} {}", signed(value))
+        }
+    }
+}
+
+fn shared(call: &ShareCase) -> String {
+    let ShareCase {
+        field,
+        parties,
+        threshold,
+        secret,
+        coefficients,
+        lent,
+    } = call;
+    let mut left = lent.clone();
+    let number = share(
+        *field,
+        *parties,
+        *threshold,
+        *secret,
+        coefficients,
+        &mut left,
+    );
+    let (coefficients, length, left) = (list(coefficients), lent.len(), list(&left));
+    format!("shared {field} {parties} {threshold} {secret} {coefficients} {length} {number} {left}")
+}
+
+fn recovered(call: &RecoverCase) -> String {
+    let RecoverCase {
+        field,
+        parties,
+        threshold,
+        row,
+        lent,
+    } = call;
+    let mut left = lent.clone();
+    let (number, value) = recover(*field, *parties, *threshold, row, &mut left);
+    let (row, length, value, left) = (list(row), lent.len(), signed(value.into()), list(&left));
+    format!("recovered {field} {parties} {threshold} {row} {length} {number} {value} {left}")
+}
+
+fn signed(a: i64) -> String {
+    if a < 0 {
+        format!("(negℤ (pos {}))", -a)
+    } else {
+        format!("(pos {a})")
+    }
+}
+
+fn list<T: Copy + PartialEq + std::fmt::Display>(numbers: &[T]) -> String {
+    if numbers.is_empty() {
+        return String::from("[]");
+    }
+    format!("({})", chained(numbers))
+}
+
+/// The numbers one by one, and long runs of one number with replicate.
+fn chained<T: Copy + PartialEq + std::fmt::Display>(numbers: &[T]) -> String {
+    let mut text = String::new();
+    let mut rest = numbers;
+    let mut open = 0;
+    while let Some(&first) = rest.first() {
+        let run = rest.iter().take_while(|&&number| number == first).count();
+        if run < RUN {
+            text += &format!("{first} ∷ ");
+            rest = &rest[1..];
+            continue;
+        }
+        if !text.is_empty() {
+            text += "(";
+            open += 1;
+        }
+        text += &format!("replicate {run} {first} ++ ");
+        rest = &rest[run..];
+    }
+    let text = match text.strip_suffix(" ++ ") {
+        Some(text) => String::from(text),
+        None => text + "[]",
+    };
+    text + &")".repeat(open)
+}
+
+#[cfg(test)]
+mod tests {
+    use super::*;
+
+    #[test]
+    fn long_runs_of_one_number_are_replicated() {
+        assert_eq!(list::<u32>(&[]), "[]");
+        assert_eq!(list(&[0; 9]), format!("({}[])", "0 ∷ ".repeat(9)));
+        assert_eq!(list(&[0; 10]), "(replicate 10 0)");
+        let numbers = [vec![1], vec![0; 10], vec![2], vec![3; 11], vec![4]].concat();
+        assert_eq!(
+            list(&numbers),
+            "(1 ∷ (replicate 10 0 ++ 2 ∷ (replicate 11 3 ++ 4 ∷ [])))"
+        );
+    }
+
+    #[test]
+    fn lines_are_not_long() {
+        for name in NAMES {
+            for line in text(name).unwrap().lines() {
+                assert!(line.chars().count() <= 150, "{line}");
+            }
+        }
+    }
+
+    #[test]
+    fn each_row_has_its_comment_and_answer() {
+        let text = text("ScriptCases").unwrap();
+        let row = "    -- 10: no END: the place is the script length\n    ∷ scripted 0 (1 ∷ 0 ∷ []) 10 2\n";
+        assert!(text.contains(row));
+    }
+}
