@@ -51,7 +51,9 @@ fn main() -> ExitCode {
         ["gate-sheet", name] => gate_sheet(name),
         ["--help"] => write_out(help().as_bytes()),
         [] => return refuse("a word is missing"),
-        ["example" | "gate-sheet" | "model-cases"] => return refuse(&format!("{}: the NAME is missing", words[0])),
+        ["example" | "gate-sheet" | "model-cases"] => {
+            return refuse(&format!("{}: the NAME is missing", words[0]))
+        }
         _ => return refuse(&format!("not understood: {}", words.join(" "))),
     };
     match outcome {
