@@ -13,17 +13,19 @@ usage: reference WORD [NAME]
 
 Reads standard input where a word says so, and writes to standard output.
 
-cases         writes the stored calls of the small entries
-answers       reads such calls and writes their answers
-step-cases    writes the stored cases of the steps
-step-answers  writes the answers to those
-run-cases     writes the stored sheets, each with the lengths of its lent buffers
-run-answers   reads such sheets and writes all that each run leaves
-model-cases NAME  writes one of the model's tables of cases; the names are TABLES
-table         reads a sheet and writes the lines of its run
-example NAME  writes an example sheet; the names are NAMES
-largest       writes a sheet that reaches every limit
---help        writes this
+cases            writes the stored calls of the small entries
+answers          reads such calls and writes their answers
+step-cases       writes the stored cases of the steps
+step-answers     writes the answers to those
+run-cases        writes the stored sheets, each with the lengths of its lent buffers
+run-answers      reads such sheets and writes all that each run leaves
+model-cases NAME writes one of the model's tables of cases; the names are TABLES
+table            reads a sheet and writes the lines of its run
+example NAME     writes an example sheet; the names are NAMES
+largest          writes a sheet that reaches every limit
+gate-sheets      writes the names of the further sheets that the gate runs, one to a line
+gate-sheet NAME  writes the sheet with such a name
+--help           writes this
 
 Exits with 1 if the work fails, with 2 if the words are wrong.
 ";
@@ -45,10 +47,13 @@ fn main() -> ExitCode {
         ["table"] => read_in().and_then(|sheet| write_out(table::lines(&sheet).as_bytes())),
         ["example", name] => example(name),
         ["largest"] => write_out(&sheets::bench::largest()),
+        ["gate-sheets"] => write_out(gate_names().as_bytes()),
+        ["gate-sheet", name] => gate_sheet(name),
         ["--help"] => write_out(help().as_bytes()),
         [] => return refuse("a word is missing"),
-        ["model-cases"] => return refuse("model-cases: the NAME is missing"),
-        ["example"] => return refuse("example: the NAME is missing"),
+        ["example" | "gate-sheet" | "model-cases"] => {
+            return refuse(&format!("{}: the NAME is missing", words[0]))
+        }
         _ => return refuse(&format!("not understood: {}", words.join(" "))),
     };
     match outcome {
@@ -118,6 +123,17 @@ fn example(name: &str) -> Result<(), String> {
 
 fn example_names() -> String {
     sheets::examples::NAMES.join(", ")
+}
+
+fn gate_sheet(name: &str) -> Result<(), String> {
+    let sheet = sheets::gate::named(name).ok_or_else(|| format!("no gate sheet {name}"))?;
+    write_out(&sheet)
+}
+
+/// Each name on a line of its own.
+fn gate_names() -> String {
+    let sheets = sheets::gate::all();
+    sheets.iter().map(|(name, _)| format!("{name}\n")).collect()
 }
 
 fn help() -> String {

@@ -5,6 +5,7 @@ use crate::cases::held as calls;
 use crate::sharing::{recover, share};
 use crate::sheets::held::{self as sheets, Held, Left};
 use crate::signed::{decode, encode};
+use crate::table::values_revealed;
 
 pub const NAMES: [&str; 5] = [
     "SheetCases",
@@ -191,6 +192,7 @@ fn told(left: &Left) -> String {
         answer.masks,
         answer.triples,
         answer.openings,
+        values_revealed(answer),
     ];
     let mut end = vec![answer.number as usize];
     end.extend(counts);

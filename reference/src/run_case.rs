@@ -98,7 +98,8 @@ fn check_length(name: &str, length: usize, longest: usize) -> Result<(), String>
     Ok(())
 }
 
-/// The end, the set registers, how many cells of unset ones are not 0, and both buffers.
+/// The end, the set registers, how many cells of unset ones are 0, and both buffers. All cells of
+/// unset registers are to be 0, so there are seven for each.
 pub fn lines(case: &Case) -> String {
     let Outcome {
         answer,
@@ -111,7 +112,7 @@ pub fn lines(case: &Case) -> String {
         if set {
             lines += &format!("register {register}{}\n", list(cells));
         } else {
-            rest += cells.iter().filter(|&&cell| cell != 0).count();
+            rest += cells.iter().filter(|&&cell| cell == 0).count();
         }
     }
     lines += &format!("rest {rest}\n");
@@ -138,7 +139,7 @@ end 0 at 10 inputs 2 masks 0 triples 1 openings 3
 register 0 7 9 11 0 0 0 0
 register 1 7 11 2 0 0 0 0
 register 2 7 12 4 0 0 0 0
-rest 0
+rest 427
 record 5 6 7 2 3 4 7 12 4 7777777 7777777 7777777
 revealed 2 7777777 7777777
 ";
@@ -157,7 +158,7 @@ revealed 2 7777777 7777777
 end 25 at 4 inputs 2 masks 0 triples 0 openings 0
 register 0 7 9 11 0 0 0 0
 register 1 7 11 2 0 0 0 0
-rest 0
+rest 434
 record
 revealed
 ";

@@ -1,10 +1,11 @@
-//! Sheets to run: drawn from a seed and an index, stored, and for measuring time.
+//! Sheets to run: drawn from a seed and an index, stored, for the gate, and for measuring time.
 
 pub mod bench;
 mod draft;
 mod drawer;
 pub mod examples;
 mod fault;
+pub mod gate;
 mod good;
 pub mod held;
 pub mod stored;

@@ -76,6 +76,11 @@ ring (suc-le-suc {m = n} h) P N Q M e = by-quotients (suc n) _ _ M N (omega arit
 -- The general rules stand last: an earlier rule wins.
 pub ruleset mod-ring = (dif-mod, add-dif, mul-dif, sub-dif, add-out, mul-out, mod-dif, add-in, mul-in, sub-in)
 
+-- a product with its operands exchanged
+pub mul-turned : (p x y : ℕ) {r : ℕ} → r ≡ mul p x y → r ≡ mul p y x
+unfolding mul
+mul-turned p x y e = e ∙ ap (λ (z : ℕ). z % p) (omega arith)
+
 -- results are below p
 pub add-lt : {p : ℕ} (a b : ℕ) → 0 < p → add p a b < p
 unfolding add

@@ -1,7 +1,7 @@
--- Tests that compute: a conjunction taken apart, and a rule proved at every number below a bound by one computed test.
+-- Tests that compute: a conjunction taken apart, what holds of both branches, and a rule proved at every number below a bound by one computed test.
 -- Assumes nothing.
 use mathlib.Core.Path.{_≡_, refl}
-use mathlib.Core.Bool.{Bool, true, false, _&&_}
+use mathlib.Core.Bool.{Bool, true, false, _&&_, cond}
 use Prim.Native.Nat.{ℕ, zero, suc, _<_}
 use native.Mathlib.Decide.{decLt}
 use native.Mathlib.Omega.{arith}
@@ -46,3 +46,8 @@ every-at (suc n) f t k h = pick (decLt k n) (every-at n f (and-right (f n) (ever
     pick : Dec (k < n) → (k < n → T (f k)) → T (f k)
     pick (yes l) below = below l
     pick (no l) below = let e : k ≡ n = omega arith in rw e (and-left (f n) (every n f) t)
+
+-- what holds of both branches of a test
+pub choice : {A : Type 0} (P : A → Type 0) (b : Bool) {x y : A} → (b ≡ true → P x) → (b ≡ false → P y) → P (cond b x y)
+choice P true k l = k refl
+choice P false k l = l refl

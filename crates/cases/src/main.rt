@@ -2,14 +2,16 @@
 // little-endian, the lengths of the sheet, the record and the revealed list; then the sheet.
 mod outcome;
 
+ghost use mathlib.Core.Path.{_≡_};
 ghost use Prim.Native.Nat.{_≤_};
 ghost use lib.ListN.{length};
+ghost use Rattle.model.specs.Bytes as Bytes;
 use machine::run;
 use outcome::outcome;
 use sharing::rows;
 
 fn main() {
-    let mut input = [0u8; 400000];
+    let mut input = [0u8; 600000];
     let got = io::read_full(0, &mut input);
     run_cases(&input[..got]);
 }
@@ -50,6 +52,7 @@ fn run_case(s: &[u8]) -> usize
 
 fn length_at(s: &[u8], i: usize) -> usize
     requires { ⌜ (12 ≤ length (now s)) × (i ≤ 8) ⌝ }
+    ensures { λ r. ⌜ r ≡ Bytes.number 4 (now (s .entry)) i ⌝ }
 {
     rows::read_word(s, i) as usize
 }

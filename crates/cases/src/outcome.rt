@@ -1,5 +1,7 @@
 // What a run leaves: the answer, the registers, and both buffers to their last number.
+ghost use mathlib.Core.Path.{_≡_};
 ghost use Prim.Native.Nat.{_≤_, _<_};
+ghost use Rattle.cases.specs.Blanks as Blanks;
 use machine::run::Answer;
 use machine::table::Table;
 use report::lines;
@@ -49,30 +51,33 @@ fn register(table: Table, r: usize)
     list_line(b"", &shares[..]);
 }
 
-// 1 for a cell that is not 0, of a register that is not set.
-fn stray(set: bool, cell: u32) -> usize
-    ensures { λ r. ⌜ r ≤ 1 ⌝ }
+// 1 for a cell that is 0, of a register that is not set.
+fn blank(set: bool, cell: u32) -> usize
+    ensures { λ r. ⌜ (r ≡ Blanks.blank set cell) × (r ≤ 1) ⌝ }
 {
     if set {
         0
     } else if cell == 0 {
-        0
-    } else {
         1
+    } else {
+        0
     }
 }
 
-fn strays(table: Table) -> usize {
+// "the cells of an unset register are 0": seven for each, so the number shows that every cell was looked at.
+fn blanks(table: Table) -> usize
+    ensures { λ r. ⌜ r ≡ Blanks.blanks (table .marks) (table .cells) 448 ⌝ }
+{
     let mut found = 0;
     let mut i = 0;
     while i < 448 {
-        found += stray(table.marks[i / 7], table.cells[i]);
+        found += blank(table.marks[i / 7], table.cells[i]);
         i += 1;
     }
     found
 }
 
 fn rest(table: Table) {
-    count(b"rest ", strays(table));
+    count(b"rest ", blanks(table));
     line_end();
 }

@@ -1,8 +1,11 @@
 // Runs the cases of standard input through the small entries, and prints each case with its answer. A case is 112 bytes, as
 // reference/src/case.rs has it: 28 words of 4 bytes, little-endian.
-ghost use Prim.Native.Nat.{_+_, _≤_};
+ghost use Prim.Native.Nat.{_+_, _*_, _%_, _^_, _≤_, min};
 ghost use mathlib.Core.Path.{_≡_};
+ghost use lib.Dec.{eqb};
 ghost use lib.ListN.{length};
+ghost use Rattle.field.specs.Signed.{signedOf};
+ghost use Rattle.entries.specs.Words.{wordOf, wordsOf};
 use field::coding;
 use report::number::line_end;
 use report::number::list;
@@ -43,6 +46,7 @@ fn run_case(s: &[u8])
 // Word i of a case.
 fn word(s: &[u8], i: usize) -> u32
     requires { ⌜ (length (now s) ≡ 112) × (i ≤ 27) ⌝ }
+    ensures { λ r. ⌜ r ≡ wordOf (now (s .entry)) i ⌝ }
 {
     rows::read_word(s, 4 * i)
 }
@@ -50,7 +54,7 @@ fn word(s: &[u8], i: usize) -> u32
 // The nine words of a case from word i on.
 fn words(s: &[u8], i: usize) -> [u32; 9]
     requires { ⌜ (length (now s) ≡ 112) × (i ≤ 19) ⌝ }
-    ensures { λ r. ⌜ 9 ≡ length r ⌝ }
+    ensures { λ r. ⌜ (r ≡ wordsOf (now (s .entry)) i) × (9 ≡ length r) ⌝ }
 {
     let mut out = [0u32; 9];
     let mut j = 0;
@@ -64,7 +68,7 @@ fn words(s: &[u8], i: usize) -> [u32; 9]
 // The length of a list of at most nine numbers, at word i.
 fn length_at(s: &[u8], i: usize) -> usize
     requires { ⌜ (length (now s) ≡ 112) × (i ≤ 27) ⌝ }
-    ensures { λ r. ⌜ r ≤ 9 ⌝ }
+    ensures { λ r. ⌜ (r ≡ min (wordOf (now (s .entry)) i) 9) × (r ≤ 9) ⌝ }
 {
     let n = word(s, i);
     if n < 9 { n as usize } else { 9 }
@@ -149,6 +153,7 @@ fn encode(s: &[u8])
 // The signed number at words 5 to 7: m, or -(m + 1) where word 5 is not 0.
 fn signed_at(s: &[u8]) -> i64
     requires { ⌜ length (now s) ≡ 112 ⌝ }
+    ensures { λ r. ⌜ r ≡ signedOf (eqb (wordOf (now (s .entry)) 5) 0) (wordOf (now (s .entry)) 7 % 2 ^ 31 * 2 ^ 32 + wordOf (now (s .entry)) 6) ⌝ }
 {
     let high = (word(s, 7) % 2147483648) as u64;
     let m = high * 4294967296 + word(s, 6) as u64;

@@ -1,152 +1,133 @@
 -- No run outgrows a record of 10,850 numbers and a revealed list of 511: by how many lines a script has and what each spends.
 -- Assumes nothing.
-use mathlib.Core.Path.{_≡_, refl, sym, _∙_}
-use mathlib.Core.Logic.{_≢_}
-use mathlib.Core.Bool.{Bool, true, false, cond}
+use mathlib.Core.Path.{_≡_, refl, sym, subst, _∙_}
+use mathlib.Core.Logic.{_≢_, inr}
+use mathlib.Core.Bool.{Bool, true, false}
 use mathlib.Core.List.{List, [], _∷_}
 use Prim.Native.Nat.{ℕ, zero, suc, _+_, _*_, _≤_, _<_}
 use native.Mathlib.Nat.{mul-le-mul, min-le-left}
 use native.Mathlib.Omega.{arith}
-use borrow.Author.Tests.{ltb-false, eqb-true, eqb-false, leb-true, le-leb}
-use lib.Dec.{T, ltb, leb, eqb, leb→le, lit≤}
+use borrow.Author.Tests.{eqb-true, eqb-false, leb-true, le-leb}
+use lib.Dec.{T, leb, eqb, leb→le}
 use lib.ListN.{length, getD, drop, length-take}
-use Rattle.algebra.proofs.Tests.{and-left, and-right, and-true, is-true, true-false, every-at}
+use Rattle.algebra.proofs.Tests.{and-true, is-true, true-false, every-at, choice}
 use Rattle.model.specs.Steps.{Setting, Row, Deal}
-use Rattle.model.specs.Script.{Command, END, LOAD, CONST, ADD, SUB, SCALE, MUL, MOD, TRUNC, LTZ, OVER, BLOCKS, REVEAL, BITLT, Line, Script, accepted, refused, sizes, commandAt, sizeAt, inRanges, numberAt, withLine, scriptStep, scriptFrom, scriptOf}
+use Rattle.model.specs.Script.{Command, END, LOAD, CONST, ADD, SUB, SCALE, MUL, MOD, TRUNC, LTZ, OVER, BLOCKS, REVEAL, BITLT, Line, Script, accepted, refused, sizes, sizeAt, numberAt, withLine, scriptStep, scriptFrom, scriptOf}
 use Rattle.model.specs.Costs.{Cost, cost}
-use Rattle.model.specs.Sheet.{Header, headerOf, settingOf, limits, scriptIn, inputIn, dealIn, sheetNumber}
-use Rattle.model.specs.Run.{Spent, State, Supply, Stop, allSet, check, pay, finish, orElse, runLines, nothingSpent, start, supplyOf, runScript, sheetScript, stopOf, outcome, run}
+use Rattle.model.specs.Sheet.{Header, headerOf, settingOf, scriptIn, inputIn, dealIn}
+use Rattle.model.specs.Run.{Spent, State, Supply, allSet, check, pay, finish, runLines, nothingSpent, start, supplyOf, runScript, stopOf, outcome, run}
+use Rattle.model.specs.Exactness.{Accepted, Passes, begins, goes}
+use Rattle.model.specs.Refusals.{isRun, Numbered}
 use Rattle.model.proofs.Held.{check-passed, all-same}
 use Rattle.model.proofs.Acceptance.{sound}
-use Rattle.figures.specs.Room.{NoRunOutgrows}
+use Rattle.model.proofs.Balance.{Balanced, balanced-more}
+use Rattle.model.proofs.Lengths.{Fitting, fitting}
+use Rattle.model.proofs.Exactness.{exactness}
+use Rattle.model.proofs.Refusals.{Told, told, or-else, numbers, nothing-run}
+use Rattle.figures.specs.Room.{recordLength, revealedLength, NoRunOutgrows, AllHeld}
 
 -- a number that is neither of the two
 abbrev Other : ℕ → Type 0
 Other number = (number ≢ 25) × (number ≢ 26)
 
--- what holds of both branches of a test; and a stop has the number of a refusal, or else that of the rest
-choice : {A : Type 0} (P : A → Type 0) (b : Bool) {x y : A} → (b ≡ true → P x) → (b ≡ false → P y) → P (cond b x y)
-choice P true k l = k refl
-choice P false k l = l refl
-
-or-else : (number place : ℕ) (s : State) (x : Stop) → Other number → (number ≡ 0 → Other (x .number)) → Other (orElse number place s x .number)
-or-else zero place s x o k = k refl
-or-else (suc number) place s x o k = o
-
 -- Every line takes at least two bytes and END takes one, so a script of 1,024 bytes has at most 511 lines.
 abbrev Short : List ℕ → ℕ → Script → Type 0
 Short s i (accepted xs end) = i + 2 * length xs < length s
-Short s i (refused number place) = Other number
+Short s i (refused number place) = Unit {0}
 
 two-bytes : (b : ℕ) → b < 14 → b ≢ 0 → 2 ≤ getD sizes b 1
 two-bytes zero h k = absurd (k refl)
 two-bytes (suc b) h k = leb→le 2 _ (every-at 13 (λ b. leb 2 (getD sizes (suc b) 1)) tt b (omega arith))
 
 module _ (p K : ℕ) (s : List ℕ) where
-  -- what stands at place i: a refusal has another number, and what is not refused is a command
-  abbrev Told : ℕ → ℕ → Type 0
-  Told i number = Other number × (number ≡ 0 → getD s i 0 < 14)
-
-  told : (i : ℕ) → Told i (numberAt p K s i)
-  unfolding numberAt
-  told i =
-      choice (Told i) (leb (length s) i) (λ _. omega arith)
-      (λ _. choice (Told i) (ltb 13 (getD s i 0)) (λ _. omega arith)
-      (λ f. choice (Told i) (ltb (length s) (i + sizeAt s i)) (λ _. omega arith)
-      (λ _. choice (Told i) (inRanges p K (commandAt s i)) (λ _. omega (arith, ltb-false 13 (getD s i 0) f)) (λ _. omega arith))))
-
   with-line : (i : ℕ) (x : Line) (rest : Script) → 2 ≤ sizeAt s i → Short s (i + sizeAt s i) rest → Short s i (withLine x rest)
   with-line i x (accepted xs end) h k = omega arith
-  with-line i x (refused number place) h k = k
+  with-line i x (refused number place) h k = tt
 
-  step : (number i : ℕ) (rest : Script) → Told i number → Short s (i + sizeAt s i) rest → Short s i (scriptStep number s i rest)
+  step : (number i : ℕ) (rest : Script) → Told p K s i number → Short s (i + sizeAt s i) rest → Short s i (scriptStep number s i rest)
   unfolding sizeAt
-  step (suc number) i rest t k = t .0
+  step (suc number) i rest t k = tt
   step zero i rest t k =
       choice (Short s i) (eqb (getD s i 0) 0)
-      (λ _. choice (Short s i) (eqb (i + 1) (length s)) (λ e. omega (arith, eqb-true (i + 1) (length s) e)) (λ _. omega arith))
+      (λ _. choice (Short s i) (eqb (i + 1) (length s)) (λ e. omega (arith, eqb-true (i + 1) (length s) e)) (λ _. tt))
       (λ e. with-line i _ rest (two-bytes (getD s i 0) (t .1 refl) (eqb-false _ _ e)) k)
 
   short : (most i : ℕ) → Short s i (scriptFrom most p K s i)
   unfolding scriptFrom
-  short zero i = omega arith
-  short (suc most) i = step (numberAt p K s i) i _ (told i) (short most (i + sizeAt s i))
+  short zero i = tt
+  short (suc most) i = step (numberAt p K s i) i _ (told p K s i) (short most (i + sizeAt s i))
 
--- What a command opens: one row for a mask, two for a triple, and one for the register that it reveals.
-data Opens (c : Cost) : Type 0 where
-  hides : c .openings ≡ c .masks + 2 * c .triples → c .revealed ≡ 0 → Opens c
-  shows : (a : ℕ) → c .reads ≡ a ∷ [] → c .openings ≡ c .masks + 2 * c .triples + 1 → c .revealed ≡ 1 → Opens c
+-- What a command reveals: nothing, or the register that it reads.
+data Shows (c : Cost) : Type 0 where
+  hides : c .revealed ≡ 0 → Shows c
+  shows : (a : ℕ) → c .reads ≡ a ∷ [] → c .revealed ≡ 1 → Shows c
 
-opens : (l : ℕ) (c : Command) → Opens (cost l c)
+shown-by : (l : ℕ) (c : Command) → Shows (cost l c)
 unfolding cost
-opens l END = hides refl refl
-opens l (LOAD d) = hides refl refl
-opens l (CONST d v) = hides refl refl
-opens l (ADD d a b) = hides refl refl
-opens l (SUB d a b) = hides refl refl
-opens l (SCALE d a v) = hides refl refl
-opens l (MUL d a b) = hides refl refl
-opens l (MOD d a k m) = hides refl refl
-opens l (TRUNC d a k m) = hides refl refl
-opens l (LTZ d a k) = hides refl refl
-opens l (OVER d a k v) = hides refl refl
-opens l (BLOCKS d a k m) = hides refl refl
-opens l (REVEAL a) = shows a refl refl refl
-opens l (BITLT d b w v) = hides (omega arith) refl
+shown-by l END = hides refl
+shown-by l (LOAD d) = hides refl
+shown-by l (CONST d v) = hides refl
+shown-by l (ADD d a b) = hides refl
+shown-by l (SUB d a b) = hides refl
+shown-by l (SCALE d a v) = hides refl
+shown-by l (MUL d a b) = hides refl
+shown-by l (MOD d a k m) = hides refl
+shown-by l (TRUNC d a k m) = hides refl
+shown-by l (LTZ d a k) = hides refl
+shown-by l (OVER d a k v) = hides refl
+shown-by l (BLOCKS d a k m) = hides refl
+shown-by l (REVEAL a) = shows a refl refl
+shown-by l (BITLT d b w v) = hides refl
 
--- Openings are masks, two for each triple, and revealed values; and these values and the lines that are left are so many at most.
+-- The openings are balanced, and the revealed values and the lines that are left are so many at most.
 record Counts (most : ℕ) (s : Spent) (left : ℕ) : Type 0 where
-  pub openings : s .openings ≡ s .masks + 2 * s .triples + s .revealed
+  pub balance : Balanced s
   pub lines : s .revealed + left ≤ most
 
 -- Before each line: 511 at most, and 510 once a register is set, since the first line reveals nothing.
 record Before (s : Spent) (left : ℕ) : Type 0 where
   pub counts : Counts 511 s left
-  pub set : (r : ℕ) → getD (s .marks) r false ≡ true → Counts 510 s left
+  pub set : (r : ℕ) → getD (s .marks) r false ≡ true → s .revealed + left ≤ 510
 
 before-first : (d : Deal) (left : ℕ) → left ≤ 511 → Before (start d .spent) left
 unfolding start nothingSpent
 before-first d left h =
-    record { counts = record { openings = refl; lines = omega arith }; set = λ r m. absurd (true-false (sym m ∙ all-same 64 r false)) }
+    record { counts = record { balance = refl; lines = omega arith }; set = λ r m. absurd (true-false (sym m ∙ all-same 64 r false)) }
 
 before-next : {s : Spent} {left : ℕ} → Counts 510 s left → Before s left
-before-next a = record { counts = record { openings = a .openings; lines = omega arith }; set = λ r m. a }
+before-next a = record { counts = record { balance = a .balance; lines = omega arith }; set = λ r m. a .lines }
 
 -- after a command that reads only set registers, which is what 21 tries
-after : {c : Cost} {s : Spent} {left : ℕ} → Opens c → Before s (suc left) → allSet (s .marks) (c .reads) ≡ true → Counts 510 (pay c s) left
+after : (l : ℕ) (c : Command) {s : Spent} {left : ℕ} → Before s (suc left) → allSet (s .marks) (cost l c .reads) ≡ true → Counts 510 (pay (cost l c) s) left
 unfolding allSet pay
-after (hides e f) k t = record { openings = omega arith; lines = omega arith }
-after (shows a q e f) k t =
-    let h = k .set a (sym (and-true _) ∙ rw q at t) in
-    record { openings = omega arith; lines = omega arith }
-
--- the sheet's limits that count here
-limited : (h : Header) → T (limits h) → ((h .masks ≤ 16) × (h .triples ≤ 512)) × (h .script ≤ 1024)
-unfolding limits
-limited h t = search (leb→le, and-left, and-right)
+after l c {s} {left} k t = record { balance = balanced-more l c s (k .counts .balance); lines = go (shown-by l c) }
+  where
+    go : Shows (cost l c) → s .revealed + cost l c .revealed + left ≤ 510
+    go (hides e) = omega (arith, k .counts .lines)
+    go (shows a q e) = omega (arith, k .set a (sym (and-true _) ∙ rw q at t))
 
 -- the run of an accepted sheet, by its header
-module _ (h : Header) (counts : T (limits h)) (people : h .n ≤ 7) (log shown : ℕ) (log-long : 10850 ≤ log) (shown-long : 511 ≤ shown) where
+module _ (h : Header) (fits : Fitting h) (people : h .n ≤ 7) (log shown : ℕ) (log-long : recordLength ≤ log) (shown-long : revealedLength ≤ shown) where
   abbrev u : Supply
   u = supplyOf h log shown
 
   -- with the masks and triples of the sheet there are at most 1,024 + 16 + 510 openings
   room : {s : Spent} {left : ℕ} → Counts 510 s left → s .masks ≤ h .masks → s .triples ≤ h .triples → (s .openings * h .n ≤ log) × (s .revealed ≤ shown)
   room {s} a m t =
-      let l = limited h counts in
       let q : s .openings * h .n ≤ (1024 + 16 + 510) * 7 = mul-le-mul {n₂ = 1024 + 16 + 510} {m₂ = 7} (omega arith) people in
       omega arith
 
   -- 25 and 26 are tried after 21, 23 and 24
-  checked : {s : Spent} {left : ℕ} {c : Cost} → Opens c → Before s (suc left) → Other (check u c s)
+  checked : (l : ℕ) (c : Command) {s : Spent} {left : ℕ} → Before s (suc left) → Other (check u (cost l c) s)
   unfolding check pay
-  checked {s} {c = c} o k =
-      choice Other (allSet (s .marks) (c .reads))
-      (λ r. choice Other (leb (s .inputs + c .inputs) (h .inputs))
-      (λ _. choice Other (leb (s .masks + c .masks) (h .masks))
-      (λ m. choice Other (leb (s .triples + c .triples) (h .triples))
+  checked l c {s} k =
+      let c₁ = cost l c in
+      choice Other (allSet (s .marks) (c₁ .reads))
+      (λ r. choice Other (leb (s .inputs + c₁ .inputs) (h .inputs))
+      (λ _. choice Other (leb (s .masks + c₁ .masks) (h .masks))
+      (λ m. choice Other (leb (s .triples + c₁ .triples) (h .triples))
       (λ t.
-      let q = room (after o k r) (leb-true _ _ m) (leb-true _ _ t) in
+      let q = room (after l c k r) (leb-true _ _ m) (leb-true _ _ t) in
       rw (le-leb _ _ (q .0), le-leb _ _ (q .1)) (omega arith))
       (λ _. omega arith)) (λ _. omega arith)) (λ _. omega arith)) (λ _. omega arith)
 
@@ -154,36 +135,57 @@ module _ (h : Header) (counts : T (limits h)) (people : h .n ≤ 7) (log shown :
     finished : (c : Command) (s : State) {left : ℕ} → Before (s .spent) (suc left) → check u (cost (S .l) c) (s .spent) ≡ 0
         → Before (finish S input c s .spent) left
     unfolding finish
-    finished c s k e = before-next (after (opens (S .l) c) k (is-true _ (check-passed u (cost (S .l) c) (s .spent) e .reads)))
+    finished c s k e = before-next (after (S .l) c k (is-true _ (check-passed u (cost (S .l) c) (s .spent) e .reads)))
 
     lines : (xs : List Line) (s : State) → Before (s .spent) (length xs) → Other (runLines S u input end xs s .number)
     unfolding runLines
     lines [] s k = omega arith
     lines (x ∷ xs) s k =
-        or-else (check u (cost (S .l) (x .command)) (s .spent)) (x .place) s _ (checked (opens (S .l) (x .command)) k)
+        or-else Other (check u (cost (S .l) (x .command)) (s .spent)) (x .place) s _ (checked (S .l) (x .command) k)
         (λ e. lines xs (finish S input (x .command) s) (finished (x .command) s k e))
 
-  script : (s : List ℕ) (x : Script) → Short (scriptIn h s) 0 x → Other (runScript h s log shown x .number)
-  unfolding runScript scriptIn
-  script s (refused number place) k = k
-  script s (accepted xs end) k =
-      let l = limited h counts in
+  script : (s : List ℕ) (xs : List Line) (end : ℕ) → Short (scriptIn h s) 0 (accepted xs end)
+      → Other (runLines (settingOf h) u (inputIn h s) end xs (start (dealIn h s)) .number)
+  unfolding scriptIn
+  script s xs end k =
       lines (settingOf h) (inputIn h s) end xs (start (dealIn h s))
-      (before-first (dealIn h s) (length xs) (omega (arith, rw length-take at k, min-le-left (h .script) (length (drop 11 s)))))
+      (before-first (dealIn h s) (length xs) (omega (arith, fits, rw length-take at k, min-le-left (h .script) (length (drop 11 s)))))
 
--- a sheet that is refused has another number
-low : (b : Bool) (x y : ℕ) → x ≤ 8 → y ≤ 8 → cond b x y ≤ 8
-low true x y h k = h
-low false x y h k = k
+accepted-other : (s : List ℕ) (log shown : ℕ) → recordLength ≤ log → revealedLength ≤ shown → Accepted s → Other (stopOf s log shown .number)
+unfolding stopOf runScript scriptOf
+accepted-other s log shown log-long shown-long a =
+    let h = headerOf s in
+    let Q = sound s (a .number) in
+    rw (a .number, a .script)
+    (script h (fitting h (Q .field) (Q .people .most) (Q .counts)) (Q .people .most) log shown log-long shown-long s (a .lines) (a .end) (subst (Short (scriptIn h s) 0) (a .script) (short _ _ (scriptIn h s) _ 0)))
 
-sheet-low : (s : List ℕ) → sheetNumber s ≤ 8
-unfolding sheetNumber
-sheet-low s = search (low, lit≤, tt) depth 10
-
+-- 25 and 26 are numbers of accepted sheets only
 pub no-run-outgrows : NoRunOutgrows
-unfolding run outcome stopOf scriptOf
+unfolding run outcome
 no-run-outgrows s log revealed log-long shown-long =
-    or-else (sheetNumber s) 0 _ _ (omega (arith, sheet-low s))
-    (λ e.
-    let Q = sound s e in
-    script (headerOf s) (Q .counts) (Q .people .most) (length log) (length revealed) log-long shown-long s (sheetScript s) (short _ _ (scriptIn (headerOf s) s) _ 0))
+    let N = numbers .of-run s log revealed .state .0 in
+    let o = accepted-other s (length log) (length revealed) log-long shown-long in
+    (λ e. o (N (inr (omega arith))) .0 e, λ e. o (N (inr (omega arith))) .1 e)
+
+-- The checks keep both buffers from being outgrown, in every state that a run passes through.
+abbrev Within : Supply → Spent → Type 0
+Within u s = (s .openings * u .parties ≤ u .log) × (s .revealed ≤ u .shown)
+
+within : {S : Setting} {u : Supply} {input : List Row} {d : Deal} {xs ys : List Line} {s : State} {vs ws : List ℕ} → Passes S u input d xs ys s vs ws
+    → Within u (s .spent)
+unfolding start nothingSpent finish pay
+within begins = omega arith
+within (goes {x} {s = s} p e) = let P = check-passed _ (cost _ (x .command)) (s .spent) e in (P .room, P .shown)
+
+pub all-held : AllHeld
+unfolding run outcome
+all-held s log revealed = go (isRun (run s log revealed .number)) refl
+  where
+    N : Numbered s (run s log revealed .number) (run s log revealed .place)
+    N = numbers .of-run s log revealed
+
+    go : (b : Bool) → isRun (run s log revealed .number) ≡ b → (run s log revealed .openings * headerOf s .n ≤ length log) × (run s log revealed .values ≤ length revealed)
+    go true e = within (exactness s (length log) (length revealed) (N .is-run .0 (subst T (sym e) tt)) .stops .passes)
+    go false e =
+        let U = nothing-run s log revealed (λ a. subst T e (N .is-run .1 a)) in
+        rw (U .openings, U .values) (omega arith)

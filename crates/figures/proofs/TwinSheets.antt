@@ -20,7 +20,7 @@ use Rattle.model.specs.Run.{allSet, marked, check, pay, put, perform, finish, r
 use Rattle.figures.specs.Witness.{line}
 use Rattle.model.specs.Secrecy.{end, row as and-row, WellFormed, Twins, runOn}
 use Rattle.figures.specs.TwinSheets.{sheet, one, three, lines, plain, NotEmpty, TooMuch}
-use Rattle.figures.proofs.Examples.{a-group}
+use Rattle.figures.proofs.Examples.{one-party}
 
 -- party 2's shares are the same
 agree : Agree (2 ∷ []) one three
@@ -37,11 +37,13 @@ not-empty =
             second = record { lines = lines; end = 18; number = refl; script = refl };
             header = refl;
             script = refl;
-            parties = a-group;
+            parties = one-party 2 (omega arith) (omega arith);
             inputs = and-row agree end;
           };
       revealed = refl;
       reveals = refl;
+      refused-number = refl;
+      refused-revealed = refl;
       first-secret = refl;
       second-secret = refl;
     }
@@ -70,7 +72,7 @@ twins =
       second = record { lines = line 0 (LOAD 0) ∷ line 2 (REVEAL 0) ∷ []; end = 4; number = refl; script = refl };
       header = refl;
       script = refl;
-      parties = a-group;
+      parties = one-party 2 (omega arith) (omega arith);
       inputs = and-row agree end;
     }
 

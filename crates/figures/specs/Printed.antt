@@ -32,6 +32,7 @@ answer =
       masks = 0;
       triples = 1;
       openings = 3;
+      values = 1;
       registers = three 7 9 11 ∷ three 7 11 2 ∷ three 7 12 4 ∷ replicate 61 noRow;
       marks = true ∷ true ∷ true ∷ replicate 61 false;
       log = 5 ∷ 6 ∷ 7 ∷ 2 ∷ 3 ∷ 4 ∷ 7 ∷ 12 ∷ 4 ∷ 99 ∷ 99 ∷ 99 ∷ [];

@@ -1,14 +1,64 @@
--- The paper, "Figures to check", of the program table: the buffers that it lends are large enough for the run of every sheet.
+-- The paper, "The sheet" and "Figures to check": the largest sheet, and that what program table lends and reads is enough for every sheet.
 -- Assumes nothing.
+use mathlib.Core.Path.{_≡_}
 use mathlib.Core.Logic.{_≢_}
 use mathlib.Core.List.{List}
-use Prim.Native.Nat.{ℕ, _≤_}
-use lib.ListN.{length}
+use Prim.Native.Nat.{ℕ, suc, _*_, _≤_, _<_}
+use lib.Dec.{T, ltb}
+use lib.ListN.{length, take}
+use Rattle.model.specs.Fields.{parties}
+use Rattle.model.specs.Entries.{tried}
+use Rattle.model.specs.Sheet.{Header, headerOf, limits, impliedLength}
 use Rattle.model.specs.Run.{run}
+use Rattle.model.specs.Exactness.{Accepted}
 
--- "a record of 10,850 numbers (7 shares of at most 1,024 + 16 + 510 openings) and a revealed list of 511, which no run outgrows, so 25 and
--- 26 come only from the library." This holds for longer buffers too.
+-- "The program lends a record of 10,850 numbers (7 shares of at most 1,024 + 16 + 510 openings) and a revealed list of 511"
+abbrev pub recordLength : ℕ
+recordLength = 10850
+
+abbrev pub revealedLength : ℕ
+revealedLength = 511
+
+-- "which no run outgrows, so 25 and 26 come only from the library." This holds for longer buffers too.
 abbrev pub NoRunOutgrows : Type 0
 NoRunOutgrows =
-    (sheet log revealed : List ℕ) → 10850 ≤ length log → 511 ≤ length revealed
+    (sheet log revealed : List ℕ) → recordLength ≤ length log → revealedLength ≤ length revealed
     → (run sheet log revealed .number ≢ 25) × (run sheet log revealed .number ≢ 26)
+
+-- "each opened line the shares of parties 1 to n; each revealed line the field value": the buffers hold them all, whatever their lengths
+abbrev pub AllHeld : Type 0
+AllHeld =
+    (sheet log revealed : List ℕ)
+    → let o = run sheet log revealed in
+    (o .openings * headerOf sheet .n ≤ length log) × (o .values ≤ length revealed)
+
+-- "The largest sheet is 59,723 bytes."
+abbrev pub largestSheet : ℕ
+largestSheet = 59723
+
+-- a header that 2 and 3 do not refuse, and 4 not for a count
+pub record Permitted (h : Header) : Type 0 where
+  pub field : h .field < 4
+  pub people : T (parties (h .n) (h .t))
+  pub counts : T (limits h)
+
+-- the most of everything: 31 rows to a mask, 7 shares to a row
+abbrev pub largestHeader : Header
+largestHeader = record { field = 3; n = 7; t = 3; inputs = 64; masks = 16; triples = 512; script = 1024 }
+
+-- "Input longer than the largest sheet is a wrong length (4, tried after 1 to 3)." 1 does not refuse it, since it has 11 bytes.
+abbrev pub longNumber : Header → ℕ
+longNumber h = tried (ltb (h .field) 4) 2 (tried (parties (h .n) (h .t)) 3 4)
+
+pub record LargestSheet : Type 0 where
+  -- a permitted header implies no more bytes, and one implies so many
+  pub most : (h : Header) → Permitted h → impliedLength h ≤ largestSheet
+  pub permitted : Permitted largestHeader
+  pub reached : impliedLength largestHeader ≡ largestSheet
+  -- so an accepted sheet has no more
+  pub accepted : (sheet : List ℕ) → Accepted sheet → length sheet ≤ largestSheet
+  -- a longer input is refused with 2, 3 or 4
+  pub longer : (sheet log revealed : List ℕ) → largestSheet < length sheet
+      → (run sheet log revealed .number ≡ longNumber (headerOf sheet)) × (run sheet log revealed .place ≡ 0)
+  -- Of a longer input one byte more than the largest sheet has is enough: the whole outcome is that of its first 59,724 bytes.
+  pub cut : (sheet log revealed : List ℕ) → largestSheet < length sheet → run (take (suc largestSheet) sheet) log revealed ≡ run sheet log revealed

@@ -6,11 +6,13 @@ use mathlib.Core.List.{List, [], _∷_, map}
 use Prim.Native.Nat.{ℕ}
 use lib.ListN.{replicate}
 use Rattle.algebra.specs.Rows.{padded}
+use Rattle.model.specs.Shamir.{Group}
 use Rattle.model.specs.Steps.{Row}
 use Rattle.model.specs.Script.{LOAD, MUL, MOD, TRUNC, REVEAL, Line}
 use Rattle.model.specs.Sheet.{headerOf, inputIn, secrets, sheetOf}
 use Rattle.figures.specs.Figures.{small, of, five}
 use Rattle.figures.specs.Witness.{line}
+use Rattle.model.specs.Run.{stopOf}
 use Rattle.model.specs.Secrecy.{Twins, Veil, revealedBy}
 
 -- Field 0, three parties, threshold 1. Party 2 holds the share 3 of both inputs: of 1 + x, with the secret 1, and of 3.
@@ -30,11 +32,20 @@ sheet x =
 unfoldable pub lines : List Line
 lines = line 0 (LOAD 0) ∷ line 2 (MUL 1 0 0) ∷ line 6 (TRUNC 2 0 3 1) ∷ line 11 (MOD 3 0 3 1) ∷ line 16 (REVEAL 3) ∷ []
 
--- with a record of 63 numbers, for 21 openings, and one revealed number both runs come to END
+-- "For any set of t parties": the first and the last party, and three of seven
+pub record Groups : Type 0 where
+  pub first-party : Group 3 1 (1 ∷ [])
+  pub last-party : Group 3 1 (3 ∷ [])
+  pub three-parties : Group 7 3 (1 ∷ 4 ∷ 7 ∷ [])
+
+-- With a record of 63 numbers, for 21 openings, and one revealed number both runs come to END. With a record of 62 both stop at REVEAL, "a
+-- refused command included".
 pub record NotEmpty : Type 0 where
   pub twins : Twins (2 ∷ []) (sheet one) (sheet three)
   pub revealed : revealedBy (sheet one) 63 1 ≡ revealedBy (sheet three) 63 1
   pub reveals : revealedBy (sheet one) 63 1 ≡ 1 ∷ []
+  pub refused-number : stopOf (sheet one) 62 1 .number ≡ 25
+  pub refused-revealed : revealedBy (sheet one) 62 1 ≡ revealedBy (sheet three) 62 1
   pub first-secret : secrets small (inputIn (headerOf (sheet one)) (sheet one)) ≡ 1 ∷ []
   pub second-secret : secrets small (inputIn (headerOf (sheet three)) (sheet three)) ≡ 3 ∷ []
 

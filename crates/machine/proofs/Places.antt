@@ -12,20 +12,13 @@ use Rattle.model.specs.Fields as Fields
 use Rattle.model.specs.Sheet.{rowsAt, masksFrom}
 use Rattle.model.specs.Run.{noRow}
 use Rattle.model.proofs.Fields.{fields}
+use Rattle.model.proofs.Lengths.{bits-most}
 use Rattle.sheet.specs.declared.frame.Frame.{Frame}
 use Rattle.sheet.specs.Framed.{Framed}
 
 -- so many of so many items of one size
 fits : (k a c b : ℕ) → a + c ≤ b → a * k + c * k ≤ b * k
 fits k a c b h = let m : (a + c) * k ≤ b * k = mul-le-mul-right k h in omega arith
-
-bits-most : (i : ℕ) → i < 4 → Fields.bits i ≤ 31
-unfolding Fields.bits
-bits-most zero h = omega arith
-bits-most (suc zero) h = omega arith
-bits-most (suc (suc zero)) h = omega arith
-bits-most (suc (suc (suc zero))) h = omega arith
-bits-most (suc (suc (suc (suc i)))) h = absurd (omega arith)
 
 module _ {s : List ℕ} {f : Frame} (F : Framed s f) where
   pub n-most : f .n ≤ 7

@@ -10,7 +10,7 @@ use Rattle.algebra.specs.Lists.{over}
 use Rattle.model.specs.Bytes.{sevens}
 use Rattle.model.specs.Script.{Script, accepted, refused, scriptOf}
 use Rattle.model.specs.Sheet.{headerOf, settingOf, inputIn, dealIn, scriptIn, sheetNumber}
-use Rattle.model.specs.Run.{Spent, Stop, start, nothingSpent, written, outcome, refusedInput, supplyOf, runScript, sheetScript, stopOf, run}
+use Rattle.model.specs.Run.{Stop, start, nothingSpent, written, outcome, refusedInput, supplyOf, runScript, sheetScript, stopOf, run}
 use Rattle.sheet.specs.declared.frame.Frame.{Frame}
 use Rattle.sheet.specs.Framed.{Framed, settingIn}
 use Rattle.script.specs.Meaning.{scriptNumber, scriptPlace}
@@ -40,6 +40,7 @@ stopped-outcome A =
       masks = A .holds .spent i .masks;
       triples = A .holds .spent i .triples;
       openings = A .holds .spent i .openings;
+      values = A .holds .spent i .revealed;
       registers = A .holds .registers i;
       marks = A .holds .spent i .marks;
       log = A .holds .opened i;
@@ -87,14 +88,12 @@ module _ (s log₀ shown₀ : List ℕ) where
 
   -- the promise of `run::run`
   abbrev Answered : Answer → List ℕ → List ℕ → Type 0
-  Answered a log shown = (outcomeOf a log shown ≡ run s log₀ shown₀) × (a .table .spent .revealed ≡ stop .state .spent .revealed)
+  Answered a log shown = outcomeOf a log shown ≡ run s log₀ shown₀
 
   refused-answer : (number place : ℕ) → stop ≡ refusedInput number place → Answered (refusedAnswer number place) log₀ shown₀
   unfolding run emptyTable start nothingSpent
-  refused-answer number place e = (
-    refused-outcome (headerOf s .n) number place log₀ shown₀ ∙ ap (outcome (headerOf s .n) log₀ shown₀) (sym e),
-    ap (λ (x : Stop). x .state .spent .revealed) (sym e),
-  )
+  refused-answer number place e =
+      refused-outcome (headerOf s .n) number place log₀ shown₀ ∙ ap (outcome (headerOf s .n) log₀ shown₀) (sym e)
 
   pub sheet-refused : (number : ℕ) → number ≡ sheetNumber s → number ≢ 0 → Answered (refusedAnswer number 0) log₀ shown₀
   unfolding stopOf
@@ -122,7 +121,5 @@ module _ (s log₀ shown₀ : List ℕ) where
     script-run z A =
         let accepts : IsAccepted script = number-accepted (f .p) (f .largest) (take (f .input - 11) (drop 11 s)) _ 0 z in
         let w : stopFrom s f (length log₀) (length shown₀) script (start (dealOf s f)) ≡ stop =
-        stop-is F (length log₀) (length shown₀) script accepts ∙ ap (runScript (headerOf s) s (length log₀) (length shown₀)) (script-is F) ∙ sym accepted-stop in (
-          stopped-outcome A ∙ ap (outcome (f .n) log₀ shown₀) w ∙ rw (F .n-is),
-          ap (λ (x : Spent). x .revealed) (A .holds .spent) ∙ ap (λ (x : Stop). x .state .spent .revealed) w,
-        )
+        stop-is F (length log₀) (length shown₀) script accepts ∙ ap (runScript (headerOf s) s (length log₀) (length shown₀)) (script-is F) ∙ sym accepted-stop in
+        stopped-outcome A ∙ ap (outcome (f .n) log₀ shown₀) w ∙ rw (F .n-is)

@@ -37,6 +37,7 @@ outcomeOf a log revealed =
       masks = a .table .spent .masks;
       triples = a .table .spent .triples;
       openings = a .table .spent .openings;
+      values = a .table .spent .revealed;
       registers = sevens 64 (a .table .cells);
       marks = a .table .marks;
       log = log;

@@ -87,7 +87,7 @@ fn refusal(read: Read) -> u32
 // Runs a sheet. Opened shares go to the log, the paper's record, and revealed values to the revealed list, each from its start; past what was
 // written they are unchanged.
 pub fn run(sheet: &[u8], log: &mut [u32], revealed: &mut [u32]) -> Answer
-    ensures { λ r. ⌜ (outcomeOf r (now (log .exit)) (now (revealed .exit)) ≡ Run.run (now (sheet .entry)) (now (log .entry)) (now (revealed .entry))) × (r .table .spent .revealed ≡ Run.stopOf (now (sheet .entry)) (length (now (log .entry))) (length (now (revealed .entry))) .state .spent .revealed) ⌝ }
+    ensures { λ r. ⌜ outcomeOf r (now (log .exit)) (now (revealed .exit)) ≡ Run.run (now (sheet .entry)) (now (log .entry)) (now (revealed .entry)) ⌝ }
 {
     let read = sheet::read_sheet(sheet);
     let Read::Sheet(f) = read else {

@@ -1,21 +1,23 @@
 -- What is known of a sheet and a script that are not refused.
 -- Assumes nothing.
-use mathlib.Core.Path.{_≡_, refl, subst, _∙_}
+use mathlib.Core.Path.{_≡_, refl, sym, subst, _∙_}
+use mathlib.Core.Logic.{_≢_}
 use mathlib.Core.Bool.{Bool, true, false, _&&_, cond}
 use mathlib.Core.List.{List, [], _∷_, _++_, List·Memᴰ as In, List·Memᴰ·head as here, List·Memᴰ·tail as there}
 use Prim.Native.Nat.{ℕ, zero, suc, _+_, _<_}
 use native.Mathlib.Decide.{decLt}
 use native.Mathlib.Omega.{arith}
+use borrow.Author.Tests.{ltb-false, eqb-false}
 use lib.Dec.{T, ltb, leb, eqb, ltb→lt, eqb→eq}
 use lib.ListN.{length, getD}
 use lib.Pow.{pow-mono}
 use Rattle.algebra.specs.Lists.{All, none, one, allBelow}
 use Rattle.algebra.proofs.Lists.{all-below}
-use Rattle.algebra.proofs.Tests.{and-left, and-right}
+use Rattle.algebra.proofs.Tests.{and-left, and-right, every, every-at}
 use Rattle.model.specs.Fields.{Field, Parties, modulus, bits, largestK, parties}
 use Rattle.model.specs.Sharing.{Sharing}
 use Rattle.model.specs.Steps.{Setting, Row, Triple}
-use Rattle.model.specs.Script.{Line, Script, accepted, refused, commandAt, sizeAt, inRanges, numberAt, withLine, scriptStep, scriptFrom, scriptOf}
+use Rattle.model.specs.Script.{Command, END, LOAD, CONST, ADD, SUB, SCALE, MUL, MOD, TRUNC, LTZ, OVER, BLOCKS, REVEAL, BITLT, Line, Script, accepted, refused, commandsAt, commandAt, sizeAt, inRanges, numberAt, withLine, scriptStep, scriptFrom, scriptOf}
 use Rattle.model.specs.Sheet.{headerOf, settingOf, limits, impliedLength, inputIn, dealIn, all, maskRows, tripleRows, dealRows, secrets, spell, goodMask, goodTriple, sharesBelow, aSharing, sheetNumber}
 use Rattle.model.specs.Run.{supplyOf}
 use Rattle.model.proofs.Fields.{fields, parties-facts}
@@ -146,36 +148,81 @@ in-range false false false false e = absurd (omega arith)
 abbrev pub InRange : ℕ → ℕ → Line → Type 0
 InRange p K x = T (inRanges p K (x .command))
 
-abbrev LinesOk : ℕ → ℕ → Script → Type 0
-LinesOk p K (accepted xs end) = All (InRange p K) xs
-LinesOk p K (refused number place) = Unit {0}
+-- a command other than END
+abbrev pub isCommand : Command → Bool
+isCommand END = false
+isCommand (LOAD d) = true
+isCommand (CONST d v) = true
+isCommand (ADD d a b) = true
+isCommand (SUB d a b) = true
+isCommand (SCALE d a v) = true
+isCommand (MUL d a b) = true
+isCommand (MOD d a k m) = true
+isCommand (TRUNC d a k m) = true
+isCommand (LTZ d a k) = true
+isCommand (OVER d a k v) = true
+isCommand (BLOCKS d a k m) = true
+isCommand (REVEAL a) = true
+isCommand (BITLT d b w v) = true
+
+-- one of 14 commands, of which only the first is END
+other-command : (xs : List Command) → T (every 13 (λ b. isCommand (getD xs (suc b) END))) → (b : ℕ) → b < 14 → b ≢ 0 → T (isCommand (getD xs b END))
+other-command xs t zero h z = absurd (z refl)
+other-command xs t (suc b) h z = every-at 13 (λ b. isCommand (getD xs (suc b) END)) t b (omega arith)
+
+low-byte : (a b : Bool) (rest : ℕ) → _≡_ {A = ℕ} (cond a 10 (cond b 9 rest)) 0 → b ≡ false
+low-byte true b rest e = absurd (omega arith)
+low-byte false true rest e = absurd (omega arith)
+low-byte false false rest e = refl
+
+-- what holds of every command that is read and is not END holds of the lines of a script
+module _ (p K : ℕ) (s : List ℕ) (P : Line → Type 0) (holds : (i : ℕ) → numberAt p K s i ≡ 0 → getD s i 0 ≢ 0 → P (record { place = i; command = commandAt s i })) where
+  abbrev LinesOk : Script → Type 0
+  LinesOk (accepted xs end) = All P xs
+  LinesOk (refused number place) = Unit {0}
+
+  last-ok : (a : Bool) (i : ℕ) → LinesOk (cond a (accepted [] i) (refused 10 (i + 1)))
+  last-ok true i = none
+  last-ok false i = tt
+
+  with-ok : (x : Line) (rest : Script) → P x → LinesOk rest → LinesOk (withLine x rest)
+  with-ok x (accepted xs end) h R = one h R
+  with-ok x (refused number place) h R = tt
+
+  step-ok : (number i : ℕ) (rest : Script) → number ≡ numberAt p K s i → LinesOk rest → LinesOk (scriptStep number s i rest)
+  step-ok (suc number) i rest e R = tt
+  step-ok zero i rest e R = go (eqb (getD s i 0) 0) refl
+    where
+      go : (a : Bool) → eqb (getD s i 0) 0 ≡ a
+          → LinesOk (cond a (cond (eqb (i + 1) (length s)) (accepted [] i) (refused 10 (i + 1))) (withLine (record { place = i; command = commandAt s i }) rest))
+      go true q = last-ok (eqb (i + 1) (length s)) i
+      go false q = with-ok (record { place = i; command = commandAt s i }) rest (holds i (sym e) (eqb-false (getD s i 0) 0 q)) R
+
+  from-ok : (most i : ℕ) → LinesOk (scriptFrom most p K s i)
+  unfolding scriptFrom
+  from-ok zero i = tt
+  from-ok (suc most) i = step-ok (numberAt p K s i) i _ refl (from-ok most (i + sizeAt s i))
+
+  lines-all : (xs : List Line) (end : ℕ) → scriptOf p K s ≡ accepted xs end → All P xs
+  unfolding scriptOf
+  lines-all xs end e = subst LinesOk e (from-ok (suc (length s)) 0)
 
 module _ (p K : ℕ) (s : List ℕ) where
   range-at : (i : ℕ) → numberAt p K s i ≡ 0 → T (inRanges p K (commandAt s i))
   unfolding numberAt
   range-at i e = in-range (leb (length s) i) (ltb 13 (getD s i 0)) (ltb (length s) (i + sizeAt s i)) (inRanges p K (commandAt s i)) e
 
-  last-ok : (a : Bool) (i : ℕ) → LinesOk p K (cond a (accepted [] i) (refused 10 (i + 1)))
-  last-ok true i = none
-  last-ok false i = tt
+  byte-at : (i : ℕ) → numberAt p K s i ≡ 0 → getD s i 0 < 14
+  unfolding numberAt
+  byte-at i e = omega (arith, ltb-false 13 (getD s i 0) (low-byte (leb (length s) i) (ltb 13 (getD s i 0)) _ e))
 
-  with-ok : (x : Line) (rest : Script) → InRange p K x → LinesOk p K rest → LinesOk p K (withLine x rest)
-  with-ok x (accepted xs end) h R = one h R
-  with-ok x (refused number place) h R = tt
-
-  step-ok : (number i : ℕ) (rest : Script) → (number ≡ 0 → T (inRanges p K (commandAt s i))) → LinesOk p K rest → LinesOk p K (scriptStep number s i rest)
-  step-ok (suc number) i rest h R = tt
-  step-ok zero i rest h R = go (eqb (getD s i 0) 0)
-    where
-      go : (a : Bool) → LinesOk p K (cond a (cond (eqb (i + 1) (length s)) (accepted [] i) (refused 10 (i + 1))) (withLine (record { place = i; command = commandAt s i }) rest))
-      go true = last-ok (eqb (i + 1) (length s)) i
-      go false = with-ok (record { place = i; command = commandAt s i }) rest (h refl) R
-
-  from-ok : (most i : ℕ) → LinesOk p K (scriptFrom most p K s i)
-  unfolding scriptFrom
-  from-ok zero i = tt
-  from-ok (suc most) i = step-ok (numberAt p K s i) i _ (range-at i) (from-ok most (i + sizeAt s i))
+  -- a command byte that is not 0 stands for another command than END
+  command-at : (i : ℕ) → getD s i 0 < 14 → getD s i 0 ≢ 0 → T (isCommand (commandAt s i))
+  unfolding commandAt
+  command-at i h z = other-command (commandsAt s i) tt (getD s i 0) h z
 
   pub lines-ok : (xs : List Line) (end : ℕ) → scriptOf p K s ≡ accepted xs end → All (InRange p K) xs
-  unfolding scriptOf
-  lines-ok xs end e = subst (LinesOk p K) e (from-ok (suc (length s)) 0)
+  lines-ok = lines-all p K s (InRange p K) (λ i e z. range-at i e)
+
+  pub lines-commands : (xs : List Line) (end : ℕ) → scriptOf p K s ≡ accepted xs end → All (λ x. T (isCommand (x .command))) xs
+  lines-commands = lines-all p K s (λ x. T (isCommand (x .command))) (λ i e z. command-at i (byte-at i e) z)

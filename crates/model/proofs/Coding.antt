@@ -1,19 +1,20 @@
 -- `codes`: what coding promises, in every field of the table; and laws of range, code and reading for the crates that compute them.
 -- Assumes nothing.
 use mathlib.Core.Path.{_≡_, refl, sym, ap, _∙_}
+use mathlib.Core.Logic.{_↔_}
 use mathlib.Core.Bool.{true, _&&_, cond}
 use Prim.Native.Nat.{ℕ, suc, _+_, _-_, _*_, _/_, _%_, _^_, _≤_, _<_}
 use native.Mathlib.Nat.{mod-lt, mod-eq-of-lt, div-add-mod', pow-suc}
 use native.Mathlib.Decide.{decLt}
 use native.Mathlib.Omega.{arith}
 use borrow.Author.Tests.{ltb-true, lt-ltb, le-leb, lt-leb}
-use lib.Dec.{T, ltb, leb, leb·suc-suc, lt→ltb}
+use lib.Dec.{T, ltb, leb, leb·suc-suc, ltb→lt, lt→ltb}
 use lib.IntN.{ℤ, pos, negsuc, negℤ, subℕ, _+ℤ_, _*ℤ_}
 use lib.Pow.{pow-pos, pow-mono}
 use lib.Signed.{mag, nonNeg, leZ, ltZ, shrZ}
 use Rattle.algebra.proofs.Tests.{and-true, is-true}
-use Rattle.model.specs.Fields.{modulus, largestK, Field}
-use Rattle.model.specs.Coding.{inRange, code, readBack, Codes}
+use Rattle.model.specs.Fields.{Field}
+use Rattle.model.specs.Coding.{inRange, code, readBack, Codes, EveryCoding}
 use Rattle.model.proofs.Fields.{fields}
 
 -- the k-bit range is a bound of the magnitude
@@ -32,7 +33,7 @@ code-small p (pos n) h = mod-eq-of-lt h
 code-small p (negsuc n) h = rw (mod-eq-of-lt h) (omega arith)
 
 -- a difference that is negative
-below-zero : (a b n : ℕ) → b ≡ a + suc n → subℕ a b ≡ negsuc n
+pub below-zero : (a b n : ℕ) → b ≡ a + suc n → subℕ a b ≡ negsuc n
 below-zero a b n e = rw (lt-ltb a b (omega arith)) (ap negsuc (omega arith))
 
 -- a value up to the middle, and one past it
@@ -69,12 +70,9 @@ code-read p v h = go (decLt ((p - 1) / 2) v)
     go (yes l) = rw (reads-down p v l h, code-small p (negsuc (p - 1 - v)) (omega arith)) (omega arith)
     go (no l) = rw (reads-up p v (omega arith), code-small p (pos v) h)
 
--- the magnitude of a range's lowest number
-lowest-mag : (H : ℕ) → 0 < H → mag (negℤ (pos H)) < H
-lowest-mag (suc H) h = omega arith
-
-in-range-of : (k : ℕ) (a : ℤ) → mag a < 2 ^ (k - 1) → T (inRange k a)
-in-range-of k a h = rw in-range (lt→ltb (mag a) (2 ^ (k - 1)) h)
+-- a number is in range exactly where its magnitude is below 2^(k−1)
+pub in-magnitude : (k : ℕ) (a : ℤ) → T (inRange k a) ↔ (mag a < 2 ^ (k - 1))
+in-magnitude k a = (λ t. ltb→lt (mag a) (2 ^ (k - 1)) (rw in-range at t), λ h. rw in-range (lt→ltb (mag a) (2 ^ (k - 1)) h))
 
 -- twice the magnitude of a number in range is below p - 1
 pub range-small : {p l K : ℕ} → Field p l K → (k : ℕ) (a : ℤ) → 2 ≤ k → k ≤ K → inRange k a ≡ true → mag a + mag a + 1 < p
@@ -87,11 +85,13 @@ field-codes : {p l K : ℕ} → Field p l K → Codes p K
 field-codes {p} {l} {K} F = record {
   below = λ a. code-below p a (omega arith);
   modulo = λ a. record { multiple = shrZ a p; is = code-floor p a (omega arith) };
-  lowest = λ k. in-range-of k _ (lowest-mag (2 ^ (k - 1)) (pow-pos (k - 1)));
-  highest = λ k. in-range-of k _ (omega (arith, pow-pos (k - 1)));
+  range-up = λ k n. in-magnitude k (pos n);
+  range-down = λ k n. in-magnitude k (negsuc n);
+  reads-up = reads-up p;
+  reads-down = reads-down p;
   reading-undoes = λ k a h m t. read-code p a (F .modulus-is .odd) (range-small F k a h m (is-true (inRange k a) t));
   coding-undoes = code-read p;
 }
 
-pub codes : (f : ℕ) → f < 4 → Codes (modulus f) (largestK f)
-codes f h = field-codes (fields f h)
+pub every-coding : EveryCoding
+every-coding f h = field-codes (fields f h)

@@ -15,7 +15,8 @@ use Rattle.algebra.proofs.Ring.{sub-up}
 use Rattle.algebra.proofs.Lists.{below-head, below-tail}
 use Rattle.model.specs.Steps.{odd}
 use Rattle.model.specs.Sheet.{spell}
-use Rattle.model.specs.Plain.{lessStep, lessFrom, less, one}
+use Rattle.model.specs.Plain.{lessStep, lessFrom, less}
+use Rattle.model.specs.Formulas.{one}
 
 -- a comparison as a number that `omega` reads
 pub one-lt : (a b : ℕ) → one (ltb a b) ≡ 1 - (suc a - b)

@@ -17,7 +17,7 @@ use Rattle.algebra.proofs.Tests.{and-left, and-right, and-both}
 use Rattle.model.specs.Fields.{modulus, Modulus, Parties, parties}
 use Rattle.model.specs.Sharing.{eval, share, Sharing, recover, secret, isSharing}
 use Rattle.model.specs.Entries.{tried, fitted, shareNumber, shareLeft, recoverNumber, recoverValue, recoverLeft}
-use Rattle.model.specs.Shamir.{Entries}
+use Rattle.model.specs.Shamir.{Entries, EveryEntry}
 use Rattle.model.proofs.Fields.{fields, parties-facts, parties-test}
 use Rattle.model.proofs.Polynomials.{positive, eval-lt}
 use Rattle.model.proofs.Sharings.{recover-sharing, secret-sharing, sharing-of, recover-share, secret-share, test-exact}
@@ -184,7 +184,7 @@ module _ {f n t : ℕ} (h : f < 4) (P : Parties n t) where
       go true k q = (λ z. absurd (omega arith), λ no. absurd (no (k .0 tt)))
       go false k q = (λ z s. k .1 s, λ no. q)
 
-  pub entries : Entries f n t
+  entries : Entries f n t
   entries =
       record {
         recover-undoes = λ s cs out e out′ l.
@@ -193,3 +193,6 @@ module _ {f n t : ℕ} (h : f < 4) (P : Parties n t) where
         share-undoes = λ xs out e out′ l. redone xs out out′ l e (recover-accepted f n t xs out e);
         six-exact = λ xs out l k b. six xs out (only-six f n t xs out (record { field = h; people = P; first = l; second = k }) b);
       }
+
+pub every-entry : EveryEntry
+every-entry f n t h P = entries h P

@@ -1,28 +1,23 @@
--- `exact`: what the plain interpreter's formulas are in ℤ, in every field of the table.
+-- What the plain interpreter's formulas are in ℤ, in every field of the table.
 -- Assumes nothing.
 use mathlib.Core.Path.{_≡_, ap, _∙_}
 use Prim.Native.Nat.{ℕ, suc, _+_, _-_, _*_, _/_, _^_, _≤_, _<_}
 use native.Mathlib.Nat.{mod-eq-of-lt, div-le-self, pow-suc}
 use native.Mathlib.Omega.{arith}
-use lib.Dec.{T, ltb→lt}
+use lib.Dec.{T}
 use lib.IntN.{ℤ, pos, _-ℤ_, _*ℤ_, +ℤ-comm}
 use lib.Pow.{pow-pos, pow-mono, pow-add}
 use lib.Signed.{mag, ltZ, shrZ, mag-shr}
-use Rattle.algebra.proofs.Lists.{all-below}
-use Rattle.algebra.proofs.Ring.{sub-lt}
-use Rattle.model.specs.Fields.{modulus, largestK, powerOf2, inversePowerOf2, Field}
+use Rattle.model.specs.Fields.{powerOf2, inversePowerOf2, Field}
 use Rattle.model.specs.Coding.{inRange, code, readBack}
-use Rattle.model.specs.Plain.{rem, quot, negative, exceeds, charged, Division, one, Exact}
-use Rattle.model.proofs.Fields.{fields, power-inverse}
-use Rattle.model.proofs.Coding.{in-range, code-below, code-floor, read-code, code-read}
-use Rattle.model.proofs.Comparing.{less-is}
+use Rattle.model.specs.Plain.{rem, quot, negative, exceeds, charged}
+use Rattle.model.specs.Formulas.{Division, one}
+use Rattle.model.proofs.Fields.{power-inverse}
+use Rattle.model.proofs.Coding.{in-magnitude, code-below, code-floor, read-code, code-read}
 use Rattle.model.proofs.Signed.{sign-sub, code-sub, floor-is, remainder-is, sign-is}
 
-in-magnitude : (k : ℕ) (a : ℤ) → T (inRange k a) → mag a < 2 ^ (k - 1)
-in-magnitude k a t = ltb→lt (mag a) (2 ^ (k - 1)) (rw in-range at t)
-
 module _ {p l K : ℕ} (F : Field p l K) where
-  twice-fits : (k : ℕ) → 1 ≤ k → k ≤ K → 2 ^ (k - 1) + 2 ^ (k - 1) < p
+  pub twice-fits : (k : ℕ) → 1 ≤ k → k ≤ K → 2 ^ (k - 1) + 2 ^ (k - 1) < p
   twice-fits k h m = let fits : 2 ^ suc (k - 1) ≤ 2 ^ K = pow-mono (omega arith) in omega (arith, pow-suc 2 (k - 1))
 
   module _ (k m : ℕ) (a : ℤ) (hk : k ≤ K) (hm : m < k) (r : mag a < 2 ^ (k - 1)) where
@@ -50,36 +45,25 @@ module _ {p l K : ℕ} (F : Field p l K) where
   negative-code : (k : ℕ) (a : ℤ) → 2 ≤ k → k ≤ K → T (inRange k a) → negative p k (code p a) ≡ one (ltZ a (pos 0))
   unfolding negative
   negative-code k a h hk t =
-      let r = in-magnitude k a t in
+      let r = in-magnitude k a .0 t in
       rw (quot-code k (k - 1) a hk (omega arith) r) (sign-is p (2 ^ (k - 1)) a (omega arith) r)
 
-  negative-read : (k x : ℕ) → 2 ≤ k → k ≤ K → x < p → T (inRange k (readBack p x)) → negative p k x ≡ one (ltZ (readBack p x) (pos 0))
+  pub negative-read : (k x : ℕ) → 2 ≤ k → k ≤ K → x < p → T (inRange k (readBack p x)) → negative p k x ≡ one (ltZ (readBack p x) (pos 0))
   negative-read k x h hk l t = rw (code-read p x l) at (negative-code k (readBack p x) h hk t)
 
-  finished-blocks : (k m x : ℕ) → k ≤ K → m < k → x < 2 ^ (k - 1) → charged p k m x ≡ x / 2 ^ m
+  pub finished-blocks : (k m x : ℕ) → k ≤ K → m < k → x < 2 ^ (k - 1) → charged p k m x ≡ x / 2 ^ m
   unfolding charged code
   finished-blocks k m x hk hm r =
       let f = twice-fits k (omega arith) hk in
       rw (mod-eq-of-lt {n = x} {m = p} (omega arith), mod-eq-of-lt {n = x / 2 ^ m} {m = p} (omega (arith, div-le-self x (2 ^ m))))
       at (quot-code k m (pos x) hk hm r)
 
-  division-read : (k m x : ℕ) → 2 ≤ k → k ≤ K → 1 ≤ m → m < k → x < p → T (inRange k (readBack p x))
+  pub division-read : (k m x : ℕ) → 2 ≤ k → k ≤ K → 1 ≤ m → m < k → x < p → T (inRange k (readBack p x))
       → Division (readBack p x) (2 ^ m) (readBack p (quot p k m x)) (rem p k m x)
-  division-read k m x _ hk _ hm l t = rw (code-read p x l) at (division-code k m (readBack p x) hk hm (in-magnitude k (readBack p x) t))
+  division-read k m x _ hk _ hm l t = rw (code-read p x l) at (division-code k m (readBack p x) hk hm (in-magnitude k (readBack p x) .0 t))
 
-  field-exact : Exact p K
-  unfolding exceeds charged
-  field-exact =
+  pub exceeds-code : (k : ℕ) (v a : ℤ) → 2 ≤ k → k ≤ K → T (inRange k (v -ℤ a)) → exceeds p k (code p v) (code p a) ≡ one (ltZ v a)
+  unfolding exceeds
+  exceeds-code k v a h hk t =
       let z : 0 < p = omega arith in
-      record {
-        division = division-read;
-        sign = negative-read;
-        over-read = λ k v a h hk t. negative-read k _ h hk (sub-lt v a z) t;
-        over = λ k v a h hk t. rw (← (code-sub z v a)) (negative-code k (v -ℤ a) h hk t ∙ ap one (sign-sub v a));
-        charges = division-read;
-        finished = λ k m x _ hk _ hm l. finished-blocks k m x hk hm l;
-        compares = λ v bs n t l. less-is p v bs (omega arith) (all-below 2 bs .0 t) n l;
-      }
-
-pub exact : (f : ℕ) → f < 4 → Exact (modulus f) (largestK f)
-exact f h = field-exact (fields f h)
+      rw (← (code-sub z v a)) (negative-code k (v -ℤ a) h hk t ∙ ap one (sign-sub v a))

@@ -1,23 +1,27 @@
 -- Exactness and counts of whole runs: by the states that a run passes through.
 -- Assumes nothing.
 use mathlib.Core.Path.{_≡_, refl, sym, ap, _∙_}
-use mathlib.Core.List.{List, [], _∷_, _++_, append-assoc, List·Memᴰ as In, List·Memᴰ·head as here}
+use mathlib.Core.List.{List, [], _∷_, _++_, append-assoc}
 use Prim.Native.Nat.{ℕ, zero, suc, _+_, _*_}
 use native.Mathlib.Omega.{arith}
-use lib.ListN.{getD, replicate}
-use lib.Seq.{getD-set-other}
+use lib.Dec.{T}
+use lib.ListN.{replicate}
 use Rattle.algebra.specs.Lists.{All, one}
 use Rattle.model.specs.Steps.{Setting, Row, Deal}
-use Rattle.model.specs.Script.{Command, END, LOAD, CONST, ADD, SUB, SCALE, MUL, MOD, TRUNC, LTZ, OVER, BLOCKS, REVEAL, BITLT, Line}
+use Rattle.model.specs.Script.{Line}
 use Rattle.model.specs.Costs.{Cost, cost}
 use Rattle.model.specs.Sheet.{secrets}
-use Rattle.model.specs.Run.{Supply, State, noRow, check, pay, put, perform, finish, nothingSpent, start, orElse, runLines, runScript, stopOf}
-use Rattle.model.specs.Plain.{plainly}
+use Rattle.model.specs.Run.{Supply, State, check, pay, finish, nothingSpent, start, orElse, runLines, runScript, stopOf}
+use Rattle.model.specs.Plain.{plainly, reveals}
+use Rattle.model.specs.Results.{Does}
 use Rattle.model.specs.Exactness.{Passes, begins, goes, Right, sumOf, Counted, at-end, at-line, Stopped, Exactness}
 use Rattle.model.proofs.Written.{length-written}
-use Rattle.model.proofs.Held.{Holds, holds-start, check-passed}
+use Rattle.model.proofs.Sharings.{length-sharing}
+use Rattle.model.proofs.Held.{Holds, holds-start, Passed, check-passed}
 use Rattle.model.proofs.Running.{Given, finish-holds}
-use Rattle.model.proofs.Acceptance.{sound, given, InRange, lines-ok}
+use Rattle.model.proofs.Balance.{Balanced, balanced-start, balanced-more}
+use Rattle.model.proofs.Performed.{reveals-more, does}
+use Rattle.model.proofs.Acceptance.{sound, all-map, given, InRange, isCommand, lines-ok, lines-commands}
 
 all-head : {A : Type 0} {P : A → Type 0} {x : A} {xs : List A} → All P (x ∷ xs) → P x
 all-head (one p ps) = p
@@ -31,11 +35,15 @@ unfolding sumOf
 sum-more l f [] x = omega arith
 sum-more l f (y ∷ ys) x = rw (sum-more l f ys x) (omega arith)
 
-module _ {S : Setting} {K : ℕ} {u : Supply} {input : List Row} {d : Deal} (G : Given S K u input d) (xs : List Line) (ok : All (InRange (S .p) K) xs) where
+module _ {S : Setting} {K : ℕ} {u : Supply} {input : List Row} {d : Deal} (G : Given S K u input d) (xs : List Line) (ok : All (InRange (S .p) K) xs)
+    (are : All (λ x. T (isCommand (x .command))) xs) where
   -- what is known after each finished command
-  record Known (ys : List Line) (s : State) (vs : List ℕ) : Type 0 where
+  record Known (ys : List Line) (s : State) (vs ws : List ℕ) : Type 0 where
     pub holds : Holds S d s vs
+    pub shown : s .shown ≡ ws
+    pub balance : Balanced (s .spent)
     pub ranges : All (InRange (S .p) K) ys
+    pub commands : All (λ x. T (isCommand (x .command))) ys
     pub done : List Line
     pub split : xs ≡ done ++ ys
     pub inputs : s .spent .inputs ≡ sumOf (S .l) (λ c. c .inputs) done
@@ -44,12 +52,15 @@ module _ {S : Setting} {K : ℕ} {u : Supply} {input : List Row} {d : Deal} (G :
     pub openings : s .spent .openings ≡ sumOf (S .l) (λ c. c .openings) done
     pub revealed : s .spent .revealed ≡ sumOf (S .l) (λ c. c .revealed) done
 
-  known-start : Known xs (start d) (replicate 64 0)
+  known-start : Known xs (start d) (replicate 64 0) []
   unfolding start nothingSpent sumOf
   known-start =
       record {
         holds = holds-start S d;
+        shown = refl;
+        balance = balanced-start d;
         ranges = ok;
+        commands = are;
         done = [];
         split = refl;
         inputs = refl;
@@ -59,13 +70,20 @@ module _ {S : Setting} {K : ℕ} {u : Supply} {input : List Row} {d : Deal} (G :
         revealed = refl;
       }
 
-  known-more : {x : Line} {ys : List Line} {s : State} {vs : List ℕ} → Known (x ∷ ys) s vs → check u (cost (S .l) (x .command)) (s .spent) ≡ 0
-      → Known ys (finish S input (x .command) s) (plainly (S .p) (secrets S input) (s .spent .inputs) (x .command) vs)
+  passed : {x : Line} {ys : List Line} {s : State} {vs ws : List ℕ} → Known (x ∷ ys) s vs ws → check u (cost (S .l) (x .command)) (s .spent) ≡ 0
+      → Passed u (cost (S .l) (x .command)) (s .spent)
+  passed {x} {s = s} q e = check-passed u (cost (S .l) (x .command)) (s .spent) e
+
+  known-more : {x : Line} {ys : List Line} {s : State} {vs ws : List ℕ} → Known (x ∷ ys) s vs ws → check u (cost (S .l) (x .command)) (s .spent) ≡ 0
+      → Known ys (finish S input (x .command) s) (plainly (S .p) (secrets S input) (s .spent .inputs) (x .command) vs) (ws ++ reveals (x .command) vs)
   unfolding finish pay
-  known-more {x} {ys} {s} {vs} q e =
+  known-more {x} {ys} {s} {vs} {ws} q e =
       record {
-        holds = finish-holds G s vs (q .holds) (x .command) (all-head (q .ranges)) (check-passed u (cost (S .l) (x .command)) (s .spent) e);
+        holds = finish-holds G s vs (q .holds) (x .command) (all-head (q .ranges)) (passed q e);
+        shown = reveals-more G s vs (q .holds) (x .command) (passed q e) ∙ ap (λ zs. zs ++ reveals (x .command) vs) (q .shown);
+        balance = balanced-more (S .l) (x .command) (s .spent) (q .balance);
         ranges = all-tail (q .ranges);
+        commands = all-tail (q .commands);
         done = q .done ++ (x ∷ []);
         split = q .split ∙ rw append-assoc;
         inputs = rw (sum-more (S .l) (λ c. c .inputs), q .inputs);
@@ -75,16 +93,32 @@ module _ {S : Setting} {K : ℕ} {u : Supply} {input : List Row} {d : Deal} (G :
         revealed = rw (sum-more (S .l) (λ c. c .revealed), q .revealed);
       }
 
-  known : {ys : List Line} {s : State} {vs : List ℕ} → Passes S u input d xs ys s vs → Known ys s vs
+  known : {ys : List Line} {s : State} {vs ws : List ℕ} → Passes S u input d xs ys s vs ws → Known ys s vs ws
   known begins = known-start
   known (goes p e) = known-more (known p) e
 
-  right : {ys : List Line} {s : State} {vs : List ℕ} → Passes S u input d xs ys s vs → Right S s vs
-  right p =
-      let H = known p .holds .held in
-      record { sharing = λ r m. H .shared r m .sharing; secret-is = λ r m. H .shared r m .is; unset = H .unset }
+  next-does : {y : Line} {ys : List Line} {s : State} {vs ws : List ℕ} → Passes S u input d xs (y ∷ ys) s vs ws
+      → check u (cost (S .l) (y .command)) (s .spent) ≡ 0 → Does S K input (y .command) s (finish S input (y .command) s)
+  next-does {y} {s = s} {vs} p e =
+      let q = known p in
+      does G s vs (q .holds) (y .command) (all-head (q .ranges)) (all-head (q .commands)) (passed q e)
 
-  counted : {ys : List Line} {s : State} {vs : List ℕ} → Passes S u input d xs ys s vs → Counted S d xs ys s
+  right : {ys : List Line} {s : State} {vs ws : List ℕ} → Passes S u input d xs ys s vs ws → Right S s vs ws
+  right p =
+      let q = known p in
+      let H = q .holds .held in
+      record {
+        registers-64 = H .registers-64;
+        marks-64 = H .marks-64;
+        values-64 = H .values-64;
+        sharing = λ r m. H .shared r m .sharing;
+        secret-is = λ r m. H .shared r m .is;
+        unset = H .unset;
+        opened = q .holds .rows;
+        shown = q .shown;
+      }
+
+  counted : {ys : List Line} {s : State} {vs ws : List ℕ} → Passes S u input d xs ys s vs ws → Counted S d xs ys s
   counted p =
       let q = known p in
       record {
@@ -95,17 +129,18 @@ module _ {S : Setting} {K : ℕ} {u : Supply} {input : List Row} {d : Deal} (G :
         triples = q .triples;
         openings = q .openings;
         revealed = q .revealed;
+        balance = q .balance;
         masks-left = q .holds .used .masks;
         triples-left = q .holds .used .triples;
         opened = q .holds .opens;
-        numbers = length-written (S .n) (G .parties .most) (q .holds .rows) ∙ ap (λ (o : ℕ). S .n * o) (q .holds .opens);
+        numbers = length-written (S .n) (G .parties .most) (all-map (λ x. length-sharing (G .field .modulus-is) (G .parties)) (q .holds .rows)) ∙ ap (λ (o : ℕ). S .n * o) (q .holds .opens);
         shown = q .holds .shows;
       }
 
   -- the run of the lines that are left stops in a state that it passes through
-  stopped : (end : ℕ) (ys : List Line) {s : State} {vs : List ℕ} → Passes S u input d xs ys s vs → Stopped S u input d xs end (runLines S u input end ys s)
+  stopped : (end : ℕ) (ys : List Line) {s : State} {vs ws : List ℕ} → Passes S u input d xs ys s vs ws → Stopped S u input d xs end (runLines S u input end ys s)
   unfolding runLines
-  stopped end [] p = record { left = []; values = _; passes = p; stops = at-end refl refl }
+  stopped end [] p = record { left = []; plain = _; revealed = _; passes = p; stops = at-end refl refl }
   stopped end (y ∷ ys) {s} p =
       either (check u (cost (S .l) (y .command)) (s .spent)) refl (λ e. stopped end ys (goes p e))
     where
@@ -113,26 +148,7 @@ module _ {S : Setting} {K : ℕ} {u : Supply} {input : List Row} {d : Deal} (G :
           → (check u (cost (S .l) (y .command)) (s .spent) ≡ 0 → Stopped S u input d xs end (runLines S u input end ys (finish S input (y .command) s)))
           → Stopped S u input d xs end (orElse k (y .place) s (runLines S u input end ys (finish S input (y .command) s)))
       either zero e go = go (sym e)
-      either (suc k) e go = record { left = y ∷ ys; values = _; passes = p; stops = at-line e (λ z. omega arith) refl }
-
--- a command writes only what its cost says
-keeps : (S : Setting) (input : List Row) (c : Command) (s : State) (r : ℕ) → (In r (cost (S .l) c .writes) → ⊥)
-    → getD (finish S input c s .registers) r noRow ≡ getD (s .registers) r noRow
-unfolding finish perform put cost
-keeps S input END s r k = refl
-keeps S input (LOAD d) s r k = getD-set-other (s .registers) d r _ noRow (λ e. k (here e))
-keeps S input (CONST d v) s r k = getD-set-other (s .registers) d r _ noRow (λ e. k (here e))
-keeps S input (ADD d a b) s r k = getD-set-other (s .registers) d r _ noRow (λ e. k (here e))
-keeps S input (SUB d a b) s r k = getD-set-other (s .registers) d r _ noRow (λ e. k (here e))
-keeps S input (SCALE d a v) s r k = getD-set-other (s .registers) d r _ noRow (λ e. k (here e))
-keeps S input (MUL d a b) s r k = getD-set-other (s .registers) d r _ noRow (λ e. k (here e))
-keeps S input (MOD d a h m) s r k = getD-set-other (s .registers) d r _ noRow (λ e. k (here e))
-keeps S input (TRUNC d a h m) s r k = getD-set-other (s .registers) d r _ noRow (λ e. k (here e))
-keeps S input (LTZ d a h) s r k = getD-set-other (s .registers) d r _ noRow (λ e. k (here e))
-keeps S input (OVER d a h v) s r k = getD-set-other (s .registers) d r _ noRow (λ e. k (here e))
-keeps S input (BLOCKS d a h m) s r k = getD-set-other (s .registers) d r _ noRow (λ e. k (here e))
-keeps S input (REVEAL a) s r k = refl
-keeps S input (BITLT d b w v) s r k = getD-set-other (s .registers) d r _ noRow (λ e. k (here e))
+      either (suc k) e go = record { left = y ∷ ys; plain = _; revealed = _; passes = p; stops = at-line e (λ z. omega arith) refl }
 
 pub exactness : Exactness
 unfolding stopOf runScript
@@ -140,9 +156,10 @@ exactness sheet log shown A =
     let Q = sound sheet (A .number) in
     let G = given sheet Q log shown in
     let ok = lines-ok _ _ _ (A .lines) (A .end) (A .script) in
+    let commands = lines-commands _ _ _ (A .lines) (A .end) (A .script) in
     record {
-      right = λ ys s vs p. right G (A .lines) ok p;
-      counted = λ ys s vs p. counted G (A .lines) ok p;
-      keeps = λ x ys s vs p. keeps _ _ (x .command) s;
-      stops = rw (A .number, A .script) (stopped G (A .lines) ok (A .end) (A .lines) begins);
+      does = λ y ys s vs ws p e. next-does G (A .lines) ok commands p e;
+      right = λ ys s vs ws p. right G (A .lines) ok commands p;
+      counted = λ ys s vs ws p. counted G (A .lines) ok commands p;
+      stops = rw (A .number, A .script) (stopped G (A .lines) ok commands (A .end) (A .lines) begins);
     }

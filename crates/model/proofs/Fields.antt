@@ -2,14 +2,14 @@
 -- Assumes nothing.
 use mathlib.Core.Path.{_≡_, refl, ap, _∙_}
 use mathlib.Core.Bool.{Bool, _&&_}
-use Prim.Native.Nat.{ℕ, zero, suc, _+_, _*_, _/_, _%_, _^_, _<_}
+use Prim.Native.Nat.{ℕ, zero, suc, _+_, _-_, _*_, _/_, _%_, _^_, _<_}
 use native.Mathlib.Nat.{mod-eq-of-lt, pow-suc}
 use native.Mathlib.Omega.{arith}
 use lib.Dec.{T, ltb, leb, eqb, ltb→lt, leb→le, le→leb, eqb→eq}
 use Rattle.algebra.specs.Ring.{mul}
 use Rattle.algebra.proofs.Ring.{by-quotients, ring, mod-ring, reduced, both-reduced, given, mul-lt}
 use Rattle.algebra.proofs.Tests.{and-left, and-right, and-both, every, every-at}
-use Rattle.model.specs.Fields.{modulus, bits, largestK, inverse, powerOf2, inversePowerOf2, Modulus, Field, Parties, parties}
+use Rattle.model.specs.Fields.{modulus, bits, largestK, inverse, powerOf2, inversePowerOf2, Modulus, Field, Parties, parties, PartiesTested, EveryField}
 
 -- the tests of one field, one for each fact
 unit-test : ℕ → ℕ → Bool
@@ -19,7 +19,7 @@ modulus-test : ℕ → Bool
 modulus-test p = ltb 7 p && (eqb (p % 2) 1 && (ltb p (2 ^ 31) && every 7 (unit-test p)))
 
 field-test : ℕ → ℕ → ℕ → Bool
-field-test p l k = modulus-test p && (ltb p (2 ^ l) && (ltb (2 ^ k) p && (leb 2 k && ltb k 31)))
+field-test p l k = modulus-test p && (ltb p (2 ^ l) && (ltb (2 ^ (l - 1)) p && (ltb (2 ^ k) p && (leb 2 k && (ltb k 31 && eqb (suc k) l)))))
 
 table-test : ℕ → Bool
 table-test f = field-test (modulus f) (bits f) (largestK f)
@@ -48,14 +48,18 @@ field-facts : (f p l k : ℕ) → f < 4 → p ≡ modulus f → T (field-test p 
 unfolding field-test
 field-facts f p l k h e t =
     let hold = and-right (modulus-test p) _ t in
-    let fit = and-right (ltb p (2 ^ l)) _ hold in
+    let need = and-right (ltb p (2 ^ l)) _ hold in
+    let fit = and-right (ltb (2 ^ (l - 1)) p) _ need in
     let least = and-right (ltb (2 ^ k) p) _ fit in
+    let most = and-right (leb 2 k) _ least in
     record {
       modulus-is = modulus-facts f p h e (and-left (modulus-test p) _ t);
       bits-hold = ltb→lt p (2 ^ l) (and-left (ltb p (2 ^ l)) _ hold);
+      bits-needed = ltb→lt (2 ^ (l - 1)) p (and-left (ltb (2 ^ (l - 1)) p) _ need);
       range-fits = ltb→lt (2 ^ k) p (and-left (ltb (2 ^ k) p) _ fit);
       k-least = leb→le 2 k (and-left (leb 2 k) _ least);
-      k-most = ltb→lt k 31 (and-right (leb 2 k) _ least);
+      k-most = ltb→lt k 31 (and-left (ltb k 31) _ most);
+      k-is = eqb→eq (suc k) l (and-right (ltb k 31) _ most);
     }
 
 -- every field of the table
@@ -101,3 +105,9 @@ power-inverse {p} M (suc m) =
     turn x h i l e f =
         let z : 0 < p = omega arith in
         both-reduced {p = p} {y = 1} (mul-lt _ _ z) l (given (2 * h) _ _ z f (given 1 _ _ z e (simp mod-ring (ring z _ _ _ _ (omega arith)))))
+
+pub parties-tested : PartiesTested
+parties-tested n t = (parties-facts n t, parties-test)
+
+pub every-field : EveryField
+every-field = record { field = fields; inverses = λ f m h. power-inverse (fields f h .modulus-is) m }

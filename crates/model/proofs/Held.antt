@@ -1,4 +1,5 @@
--- What holds of a run's state: registers share the plain values, and the deal, the record and the revealed list are spent as counted.
+-- What holds of a run's state: registers share the plain values, what was opened are sharings, and the deal, the record and the revealed list are
+-- spent as counted.
 -- Assumes nothing.
 use mathlib.Core.Path.{_≡_, refl, sym, _∙_}
 use mathlib.Core.Bool.{Bool, true, false}
@@ -11,12 +12,13 @@ use lib.ListN.{length, getD, set, replicate, length-set, length-append}
 use lib.Seq.{getD-set-same, getD-set-other}
 use Rattle.algebra.specs.Lists.{All, none, one}
 use Rattle.algebra.proofs.Tests.{true-false}
+use Rattle.model.specs.Sharing.{Sharing}
 use Rattle.model.specs.Steps.{Setting, Row, Deal, Step}
 use Rattle.model.specs.Costs.{Cost, free}
 use Rattle.model.specs.Run.{Spent, State, Supply, noRow, allSet, marked, check, pay, put, nothingSpent, start}
 use Rattle.model.proofs.Entries.{passed}
-use Rattle.model.proofs.Shared.{Shared}
-use Rattle.model.proofs.Taking.{Seven, Used, used-then, Took, all-append}
+use Rattle.model.proofs.Shared.{Shared, Worked}
+use Rattle.model.proofs.Taking.{Used, used-then, Took, all-append}
 
 -- set registers share the plain values, and the others are 0
 pub record Held (S : Setting) (marks : List Bool) (registers : List Row) (vs : List ℕ) : Type 0 where
@@ -54,7 +56,7 @@ pub record Holds (S : Setting) (d : Deal) (s : State) (vs : List ℕ) : Type 0 w
   pub held : Held S (s .spent .marks) (s .registers) vs
   pub used : Used d (s .spent .masks) (s .spent .triples) (s .deal)
   pub opens : length (s .opened) ≡ s .spent .openings
-  pub rows : All Seven (s .opened)
+  pub rows : All (Sharing (S .p) (S .n) (S .t)) (s .opened)
   pub shows : length (s .shown) ≡ s .spent .revealed
 
 pub all-same : {A : Type 0} (n r : ℕ) (a : A) → getD (replicate n a) r a ≡ a
@@ -82,7 +84,7 @@ holds-start S d =
 
 -- a command that left a row in d
 pub holds-put : {S : Setting} {d₀ : Deal} {s : State} {vs : List ℕ} {d v m k o : ℕ} {x : Step} (i : ℕ) (rs : List ℕ) → Holds S d₀ s vs → d < 64
-    → Took (s .deal) m k o x → Shared S v (x .left)
+    → Took (s .deal) m k o x → Worked S v x
     → Holds S d₀
     (record {
       spent = pay (record { reads = rs; writes = d ∷ []; inputs = i; masks = m; triples = k; openings = o; revealed = 0 }) (s .spent);
@@ -95,10 +97,10 @@ pub holds-put : {S : Setting} {d₀ : Deal} {s : State} {vs : List ℕ} {d v m k
 unfolding pay put marked
 holds-put i rs H h K X =
     record {
-      held = held-set (H .held) h X;
+      held = held-set (H .held) h (X .left);
       used = used-then (H .used) (K .used);
       opens = rw length-append (omega (arith, H .opens, K .opens));
-      rows = all-append (H .rows) (K .rows);
+      rows = all-append (H .rows) (X .opened);
       shows = H .shows ∙ omega arith;
     }
 
@@ -115,7 +117,7 @@ holds-idle H =
       shows = H .shows ∙ omega arith;
     }
 
-pub holds-shown : {S : Setting} {d₀ : Deal} {s : State} {vs : List ℕ} (x : Row) (v a : ℕ) → Holds S d₀ s vs → Seven x
+pub holds-shown : {S : Setting} {d₀ : Deal} {s : State} {vs : List ℕ} (x : Row) (v a : ℕ) → Holds S d₀ s vs → Sharing (S .p) (S .n) (S .t) x
     → Holds S d₀
     (record {
       spent = pay (record { reads = a ∷ []; writes = []; inputs = 0; masks = 0; triples = 0; openings = 1; revealed = 1 }) (s .spent);

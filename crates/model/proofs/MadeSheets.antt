@@ -94,10 +94,10 @@ module _ {h : Header} {script : List ℕ} {input : List Row} {xs : List Line} {e
         rows = λ x m. sheet-row M (F .people) (all-in rows-are x m);
       }
 
-  says : Says (sheetOf h script input d) h script input d
+  pub says : Says (sheetOf h script input d) h script input d
   says = making .reading-undoes h script input d parts
 
-  not-refused : sheetNumber (sheetOf h script input d) ≡ 0
+  pub not-refused : sheetNumber (sheetOf h script input d) ≡ 0
   unfolding sheetNumber
   not-refused =
       let S = settingOf h in
@@ -115,7 +115,7 @@ module _ {h : Header} {script : List ℕ} {input : List Row} {xs : List Line} {e
       long : T (leb 11 (impliedLength h))
       long = le→leb 11 (impliedLength h) (unfold impliedLength in omega arith)
 
-  script-read : sheetScript (sheetOf h script input d) ≡ accepted xs end
+  pub script-read : sheetScript (sheetOf h script input d) ≡ accepted xs end
   script-read = rw (says .header-is, says .script-is) (F .script-is)
 
   pub made-stop : (log shown : ℕ) → stopOf (sheetOf h script input d) log shown

@@ -8,15 +8,15 @@ use native.Mathlib.Omega.{arith}
 use lib.ListN.{take}
 use lib.Pow.{pow-pos, pow-mono}
 use Rattle.algebra.specs.Ring.{add, sub, mul}
-use Rattle.algebra.specs.Lists.{All, first}
+use Rattle.algebra.specs.Lists.{All, one, first}
 use Rattle.model.specs.Fields.{Field, Parties}
 use Rattle.model.specs.Sharing.{Sharing}
 use Rattle.model.specs.Steps.{Setting, Row, Deal, lessMask, nextMask, stepC, stepF, stepU0, stepU1, unmasked, remainder, quotient, floor, sign, over, blocks}
 use Rattle.model.specs.Sheet.{secrets}
 use Rattle.model.specs.Plain.{rem, quot, negative, exceeds, charged}
 use Rattle.model.proofs.Unmasking.{spelt, unmask, Masking, unmask-is}
-use Rattle.model.proofs.Shared.{Shared, Shareds, TripleOk, all-drop, shared-plus, shared-minus, shared-times, shared-constant, shared-zero, opens, shared-product, shared-comparison, shared-spelled, shareds-take, shareds-secrets}
-use Rattle.model.proofs.Taking.{Used, took-comparison}
+use Rattle.model.proofs.Shared.{Shared, Shareds, Worked, TripleOk, all-drop, shared-plus, shared-minus, shared-times, shared-constant, shared-zero, opens, worked-product, worked-comparison, shared-spelled, shareds-take, shareds-secrets}
+use Rattle.model.proofs.Taking.{Used, took-comparison, all-append}
 
 -- a well-formed mask: its rows are sharings, and their secrets are bits that spell a number below p
 pub record MaskOk (S : Setting) (r : List Row) : Type 0 where
@@ -48,10 +48,10 @@ module _ (S : Setting) {K : ℕ} (F : Field (S .p) (S .l) K) (P : Parties (S .n)
       (shared-spelled S M P (shareds-take m R)))
       (shared-times S M P (2 ^ m) Y)
 
-  pub shared-remainder : (k m : ℕ) → Ranges K k m → (d : Deal) → All (TripleOk S) (d .triples) → MaskOk S (first [] (d .masks)) → {a : ℕ} {x : Row} → Shared S a x
-      → Shared S (rem (S .p) k m a) (remainder S k m x d .left)
+  pub worked-remainder : (k m : ℕ) → Ranges K k m → (d : Deal) → All (TripleOk S) (d .triples) → MaskOk S (first [] (d .masks)) → {a : ℕ} {x : Row} → Shared S a x
+      → Worked S (rem (S .p) k m a) (remainder S k m x d)
   unfolding remainder unmask
-  shared-remainder k m G d T N {a} {x} X =
+  worked-remainder k m G d T N {a} {x} X =
       let M = F .modulus-is in
       let r = nextMask S d in
       let R = shareds-secrets (N .sharings) in
@@ -60,38 +60,45 @@ module _ (S : Setting) {K : ℕ} (F : Field (S .p) (S .l) K) (P : Parties (S .n)
       let t0 = still-ok (took-comparison S (P .most) C r (lessMask d) .used) T in
       let t1 = still-ok (took-comparison S (P .most) (C % 2 ^ m) (take m r) (stepF S k x d .deal) .used) t0 in
       let t2 = still-ok (took-comparison S (P .most) ((C + S .p) % 2 ^ m) (take m r) (stepU0 S k m x d .deal) .used) t1 in
-      let f = shared-comparison S M P C (lessMask d) T R in
-      let u0 = shared-comparison S M P (C % 2 ^ m) (stepF S k x d .deal) t0 (shareds-take m R) in
-      let u1 = shared-comparison S M P ((C + S .p) % 2 ^ m) (stepU0 S k m x d .deal) t1 (shareds-take m R) in
-      let g = shared-product S M P (stepU1 S k m x d .deal) t2 f (shared-minus S M P u1 u0) in
-      let all = shared-unmasked m C (omega arith) R f (shared-plus S M P u0 g) in
+      let f = worked-comparison S M P C (lessMask d) T R in
+      let u0 = worked-comparison S M P (C % 2 ^ m) (stepF S k x d .deal) t0 (shareds-take m R) in
+      let u1 = worked-comparison S M P ((C + S .p) % 2 ^ m) (stepU0 S k m x d .deal) t1 (shareds-take m R) in
+      let g = worked-product S M P (stepU1 S k m x d .deal) t2 (f .left) (shared-minus S M P (u1 .left) (u0 .left)) in
+      let all = shared-unmasked m C (omega arith) R (f .left) (shared-plus S M P (u0 .left) (g .left)) in
       record {
-        sharing = all .sharing;
-        is = all .is ∙ ap (λ (v : ℕ). unmask (S .p) m v (secrets S r)) (opens S M P c) ∙ unmask-is F (N .masking) k m a (G .k-most) (G .m-least) (G .m-most);
+        left =
+            record {
+              sharing = all .sharing;
+              is = all .is ∙ ap (λ (v : ℕ). unmask (S .p) m v (secrets S r)) (opens S M P c) ∙ unmask-is F (N .masking) k m a (G .k-most) (G .m-least) (G .m-most);
+            };
+        opened = one (c .sharing) (all-append (f .opened) (all-append (u0 .opened) (all-append (u1 .opened) (g .opened))));
       }
 
   shared-quotient : (k m : ℕ) {a : ℕ} {x z : Row} → Shared S a x → Shared S (rem (S .p) k m a) z → Shared S (quot (S .p) k m a) (quotient S m x z)
   unfolding quot
-  shared-quotient k m X Z = let M = F .modulus-is in shared-times S M P _ (shared-minus S M P X Z)
+  shared-quotient k m X Z = let M = F .modulus-is in search (shared-plus S M P, shared-minus S M P, shared-times S M P)
 
-  pub shared-floor : (k m : ℕ) → Ranges K k m → (d : Deal) → All (TripleOk S) (d .triples) → MaskOk S (first [] (d .masks)) → {a : ℕ} {x : Row} → Shared S a x
-      → Shared S (quot (S .p) k m a) (floor S k m x d .left)
+  pub worked-floor : (k m : ℕ) → Ranges K k m → (d : Deal) → All (TripleOk S) (d .triples) → MaskOk S (first [] (d .masks)) → {a : ℕ} {x : Row} → Shared S a x
+      → Worked S (quot (S .p) k m a) (floor S k m x d)
   unfolding floor
-  shared-floor k m G d T N X = shared-quotient k m X (shared-remainder k m G d T N X)
+  worked-floor k m G d T N X =
+      let w = worked-remainder k m G d T N X in
+      record { left = shared-quotient k m X (w .left); opened = w .opened }
 
-  pub shared-sign : (k : ℕ) → 2 ≤ k → k ≤ K → (d : Deal) → All (TripleOk S) (d .triples) → MaskOk S (first [] (d .masks)) → {a : ℕ} {x : Row} → Shared S a x
-      → Shared S (negative (S .p) k a) (sign S k x d .left)
+  pub worked-sign : (k : ℕ) → 2 ≤ k → k ≤ K → (d : Deal) → All (TripleOk S) (d .triples) → MaskOk S (first [] (d .masks)) → {a : ℕ} {x : Row} → Shared S a x
+      → Worked S (negative (S .p) k a) (sign S k x d)
   unfolding sign negative
-  shared-sign k l h d T N X =
+  worked-sign k l h d T N X =
       let M = F .modulus-is in
-      shared-minus S M P (shared-zero S M P) (shared-floor k (k - 1) (record { k-most = h; m-least = omega arith; m-most = omega arith }) d T N X)
+      let w = worked-floor k (k - 1) (record { k-most = h; m-least = omega arith; m-most = omega arith }) d T N X in
+      record { left = shared-minus S M P (shared-zero S M P) (w .left); opened = w .opened }
 
-  pub shared-over : (k v : ℕ) → 2 ≤ k → k ≤ K → v < S .p → (d : Deal) → All (TripleOk S) (d .triples) → MaskOk S (first [] (d .masks)) → {a : ℕ} {x : Row} → Shared S a x
-      → Shared S (exceeds (S .p) k v a) (over S k v x d .left)
+  pub worked-over : (k v : ℕ) → 2 ≤ k → k ≤ K → v < S .p → (d : Deal) → All (TripleOk S) (d .triples) → MaskOk S (first [] (d .masks)) → {a : ℕ} {x : Row} → Shared S a x
+      → Worked S (exceeds (S .p) k v a) (over S k v x d)
   unfolding over exceeds
-  shared-over k v l h b d T N X = let M = F .modulus-is in shared-sign k l h d T N (shared-minus S M P (shared-constant S M P b) X)
+  worked-over k v l h b d T N X = let M = F .modulus-is in worked-sign k l h d T N (shared-minus S M P (shared-constant S M P b) X)
 
-  pub shared-blocks : (k m : ℕ) → Ranges K k m → (d : Deal) → All (TripleOk S) (d .triples) → MaskOk S (first [] (d .masks)) → {a : ℕ} {x : Row} → Shared S a x
-      → Shared S (charged (S .p) k m a) (blocks S k m x d .left)
+  pub worked-blocks : (k m : ℕ) → Ranges K k m → (d : Deal) → All (TripleOk S) (d .triples) → MaskOk S (first [] (d .masks)) → {a : ℕ} {x : Row} → Shared S a x
+      → Worked S (charged (S .p) k m a) (blocks S k m x d)
   unfolding blocks charged
-  shared-blocks k m G d T N X = shared-floor k m G d T N X
+  worked-blocks k m G d T N X = worked-floor k m G d T N X

@@ -2,7 +2,7 @@
 -- Assumes nothing.
 use mathlib.Core.Path.{_≡_, refl, sym, ap, subst, subst₂}
 use mathlib.Core.Bool.{Bool, true, false, _&&_, cond}
-use mathlib.Core.List.{List, [], _∷_}
+use mathlib.Core.List.{List, [], _∷_, _++_}
 use Prim.Native.Nat.{ℕ, zero, suc, _+_, _-_, _*_, _/_, _%_, _^_, _≤_, _<_}
 use native.Mathlib.Nat.{mod-lt}
 use native.Mathlib.Omega.{arith}
@@ -19,7 +19,7 @@ use Rattle.model.specs.Steps.{Setting, Row, odd, plus, constant, chosen,
 use Rattle.model.specs.Script.{Command, END, LOAD, CONST, ADD, SUB, SCALE, MUL, MOD, TRUNC, LTZ, OVER, BLOCKS, REVEAL, BITLT, Line, register, kIn, inRanges}
 use Rattle.model.specs.Costs.{cost}
 use Rattle.model.specs.Run.{Spent, Supply, noRow, check, pay}
-use Rattle.model.specs.Plain.{lessStep, lessFrom, less, rem, quot, negative, exceeds, charged, valuesFrom, plainly}
+use Rattle.model.specs.Plain.{lessStep, lessFrom, less, rem, quot, negative, exceeds, charged, valuesFrom, plainly, reveals}
 use Rattle.model.proofs.Polynomials.{positive}
 use Rattle.model.proofs.Bits.{bitsOf, length-bits}
 use Rattle.model.proofs.Unmasking.{unmask, unmask-opened}
@@ -31,28 +31,12 @@ use Rattle.model.proofs.Tied.{Tied, Ties, untied, tie, ties-alike, ties
 use Rattle.model.proofs.Trees.{Tree, Related, r-ends, r-product, r-masked, r-revealed}
 use Rattle.model.proofs.Growing.{choose, rowsFrom, fromTree, comparisonTree, remainderTree, floorTree, signTree, commandTree, linesTree}
 
--- the values that a command, and that the lines of a script, reveal, worked by the plain interpreter
-abbrev pub commandShows : Command → List ℕ → List ℕ → List ℕ
-commandShows END vs rest = rest
-commandShows (LOAD d) vs rest = rest
-commandShows (CONST d v) vs rest = rest
-commandShows (ADD d a b) vs rest = rest
-commandShows (SUB d a b) vs rest = rest
-commandShows (SCALE d a v) vs rest = rest
-commandShows (MUL d a b) vs rest = rest
-commandShows (MOD d a k m) vs rest = rest
-commandShows (TRUNC d a k m) vs rest = rest
-commandShows (LTZ d a k) vs rest = rest
-commandShows (OVER d a k v) vs rest = rest
-commandShows (BLOCKS d a k m) vs rest = rest
-commandShows (REVEAL a) vs rest = getD vs a 0 ∷ rest
-commandShows (BITLT d b w v) vs rest = rest
-
+-- the values that the lines of a script reveal, worked by the plain interpreter
 unfoldable pub linesShow : Setting → Supply → List ℕ → List Line → Spent → List ℕ → List ℕ
 linesShow S u input [] s vs = []
 linesShow S u input (x ∷ xs) s vs =
     let c = cost (S .l) (x .command) in
-    choose (check u c s) [] (commandShows (x .command) vs (linesShow S u input xs (pay c s) (plainly (S .p) input (s .inputs) (x .command) vs)))
+    choose (check u c s) [] (reveals (x .command) vs ++ linesShow S u input xs (pay c s) (plainly (S .p) input (s .inputs) (x .command) vs))
 
 -- the triples of a comparison with the bits vs, and n more
 abbrev more : List ℕ → ℕ → ℕ
@@ -153,7 +137,7 @@ module _ (S : Setting) {K : ℕ} (F : Field (S .p) (S .l) K) (wide : K < S .l) (
     related-floor : {go go′ : Row → Tree} → ((z z′ : Row) → Tied S group (quot (S .p) k m v) (quot (S .p) k m v′) z z′ → Related S group j n us (go z) (go′ z′))
         → Related S group (suc j) (n + (S .l + 2 * m - 2)) us (floorTree S k m a go) (floorTree S k m a′ go′)
     unfolding quot
-    related-floor h = let M = F .modulus-is in related-remainder (λ z z′ u. h _ _ (tied-times S M P G _ (tied-minus S M P G t u)))
+    related-floor h = let M = F .modulus-is in related-remainder (λ z z′ u. h _ _ (search (tied-plus S M P G, tied-minus S M P G, tied-times S M P G)))
 
   related-sign : {j n : ℕ} {us : List ℕ} (k : ℕ) → Ranges K k (k - 1) → {v v′ : ℕ} {a a′ : Row} → Tied S group v v′ a a′ → {go go′ : Row → Tree}
       → ((z z′ : Row) → Tied S group (negative (S .p) k v) (negative (S .p) k v′) z z′ → Related S group j n us (go z) (go′ z′))
@@ -177,10 +161,10 @@ module _ (S : Setting) {K : ℕ} (F : Field (S .p) (S .l) K) (wide : K < S .l) (
     at-register r = ties-at S (F .modulus-is) P G ts r
 
     related-command : (c : Command) → T (inRanges (S .p) K c) → {m n m′ n′ : ℕ} {us us′ : List ℕ} {go go′ : List Row → Tree}
-        → m ≡ m′ + cost (S .l) c .masks → n ≡ n′ + cost (S .l) c .triples → commandShows c vs us ≡ commandShows c ws us′
+        → m ≡ m′ + cost (S .l) c .masks → n ≡ n′ + cost (S .l) c .triples → reveals c vs ++ us ≡ reveals c ws ++ us′
         → ((h h′ : List Row) → Ties S group (plainly (S .p) is i c vs) (plainly (S .p) is′ i c ws) h h′ → us ≡ us′ → Related S group m′ n′ us (go h) (go′ h′))
-        → Related S group m n (commandShows c vs us) (commandTree S input i c g go) (commandTree S input′ i c g′ go′)
-    unfolding commandTree plainly cost inRanges exceeds charged
+        → Related S group m n (reveals c vs ++ us) (commandTree S input i c g go) (commandTree S input′ i c g′ go′)
+    unfolding commandTree plainly reveals cost inRanges exceeds charged
     related-command END ok p q e h = recount (omega arith) (omega arith) (h _ _ ts e)
     related-command (LOAD d) ok p q e h = recount (omega arith) (omega arith) (h _ _ (ties-set d ts (ties-at S (F .modulus-is) P G inputs i)) e)
     related-command (CONST d v) ok p q e h =
@@ -235,11 +219,11 @@ module _ (S : Setting) {K : ℕ} (F : Field (S .p) (S .l) K) (wide : K < S .l) (
         let c = cost (S .l) (x .command) in
         let us = linesShow S u is xs (pay c s) (plainly (S .p) is (s .inputs) (x .command) vs) in
         let us′ = linesShow S u is′ xs (pay c s) (plainly (S .p) is′ (s .inputs) (x .command) ws) in
-        related-choose (check u c s) [] (commandShows (x .command) vs us)
+        related-choose (check u c s) [] (reveals (x .command) vs ++ us)
         (r-ends (record { number = refl; place = refl; spent = refl; columns = ties-alike ts })) (λ z.
         let Q = check-passed u c s z in
         related-command inputs (s .inputs) ts (x .command) ok
         {m′ = u .masks - (s .masks + c .masks)} {n′ = u .triples - (s .triples + c .triples)} {us = us} {us′ = us′}
         (omega (arith, Q .masks)) (omega (arith, Q .triples))
-        (subst (λ (k : ℕ). choose k [] (commandShows (x .command) vs us) ≡ choose k [] (commandShows (x .command) ws us′)) z e)
+        (subst (λ (k : ℕ). choose k [] (reveals (x .command) vs ++ us) ≡ choose k [] (reveals (x .command) ws ++ us′)) z e)
         (λ h h′ hs f. related-lines xs oks (pay c s) hs f))

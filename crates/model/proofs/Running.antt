@@ -17,10 +17,9 @@ use Rattle.model.specs.Costs.{cost}
 use Rattle.model.specs.Sheet.{secrets}
 use Rattle.model.specs.Run.{State, Supply, noRow, allSet, registersFrom, perform, finish}
 use Rattle.model.specs.Plain.{plainly, valuesFrom}
-use Rattle.model.proofs.Sharings.{length-sharing}
-use Rattle.model.proofs.Shared.{Shared, Shareds, no-more, and, TripleOk, shared-plus, shared-minus, shared-times, shared-constant, shared-product, shared-comparison, shareds-secrets}
+use Rattle.model.proofs.Shared.{Shared, Shareds, Worked, no-more, and, TripleOk, shared-plus, shared-minus, shared-times, shared-constant, worked-product, worked-comparison, shareds-secrets}
 use Rattle.model.proofs.Taking.{Took, took-product, took-comparison, took-remainder, took-floor, took-sign, took-over, took-blocks, took-nothing}
-use Rattle.model.proofs.Masked.{MaskOk, Ranges, shared-remainder, shared-floor, shared-sign, shared-over, shared-blocks, still-ok}
+use Rattle.model.proofs.Masked.{MaskOk, Ranges, worked-remainder, worked-floor, worked-sign, worked-over, worked-blocks, still-ok}
 use Rattle.model.proofs.Held.{Held, Holds, holds-put, holds-idle, holds-shown, Passed}
 
 -- what a run is worked with: well-formed input and deal, as much as is supplied
@@ -58,7 +57,7 @@ set-first : (marks : List Bool) (r : ℕ) (rs : List ℕ) → T (allSet marks (r
 unfolding allSet
 set-first marks r rs t = is-true _ (and-left (getD marks r false) (allSet marks rs) t)
 
-set-others : (marks : List Bool) (r : ℕ) (rs : List ℕ) → T (allSet marks (r ∷ rs)) → T (allSet marks rs)
+pub set-others : (marks : List Bool) (r : ℕ) (rs : List ℕ) → T (allSet marks (r ∷ rs)) → T (allSet marks rs)
 unfolding allSet
 set-others marks r rs t = and-right (getD marks r false) (allSet marks rs) t
 
@@ -82,6 +81,16 @@ sign-ranges K d a k ok =
     let r = k-range K k t in
     record { k-most = r .1; m-least = omega arith; m-most = omega arith }
 
+-- register d, then more tests
+pub low : (d : ℕ) (x : Bool) → T (register d && x) → d < 64
+low d x t = ltb→lt d 64 (and-left (register d) x t)
+
+pub low₂ : (d : ℕ) (x y : Bool) → T (register d && x && y) → d < 64
+low₂ d x y t = low d x (and-left (register d && x) y t)
+
+pub low₃ : (d : ℕ) (x y z : Bool) → T (register d && x && y && z) → d < 64
+low₃ d x y z t = low₂ d x y (and-left (register d && x && y) z t)
+
 module _ {S : Setting} {K : ℕ} {u : Supply} {input : List Row} {d₀ : Deal} (G : Given S K u input d₀) where
   -- registers b to b + w - 1
   shareds-from : (s : State) {vs : List ℕ} → Held S (s .spent .marks) (s .registers) vs → (b w : ℕ) → T (allSet (s .spent .marks) (from b w))
@@ -103,22 +112,12 @@ module _ {S : Setting} {K : ℕ} {u : Supply} {input : List Row} {d₀ : Deal} (
   mask-left : {s : State} {vs : List ℕ} → Holds S d₀ s vs → s .spent .masks + 1 ≤ u .masks → MaskOk S (first [] (s .deal .masks))
   mask-left {s} H h = rw (H .used .masks) (next-mask (G .masks-ok) (s .spent .masks) (omega (arith, G .masks-many)))
 
-  -- register d, then more tests
-  low : (d : ℕ) (x : Bool) → T (register d && x) → d < 64
-  low d x t = ltb→lt d 64 (and-left (register d) x t)
-
-  low₂ : (d : ℕ) (x y : Bool) → T (register d && x && y) → d < 64
-  low₂ d x y t = low d x (and-left (register d && x) y t)
-
-  low₃ : (d : ℕ) (x y z : Bool) → T (register d && x && y && z) → d < 64
-  low₃ d x y z t = low₂ d x y (and-left (register d && x && y) z t)
-
   module _ (s : State) (vs : List ℕ) (H : Holds S d₀ s vs) where
     -- the value of a register that is read
-    reads : (r : ℕ) (rs : List ℕ) → T (allSet (s .spent .marks) (r ∷ rs)) → Shared S (getD vs r 0) (getD (s .registers) r noRow)
+    pub reads : (r : ℕ) (rs : List ℕ) → T (allSet (s .spent .marks) (r ∷ rs)) → Shared S (getD vs r 0) (getD (s .registers) r noRow)
     reads r rs t = H .held .shared r (set-first (s .spent .marks) r rs t)
 
-    reads-second : (q r : ℕ) (rs : List ℕ) → T (allSet (s .spent .marks) (q ∷ r ∷ rs)) → Shared S (getD vs r 0) (getD (s .registers) r noRow)
+    pub reads-second : (q r : ℕ) (rs : List ℕ) → T (allSet (s .spent .marks) (q ∷ r ∷ rs)) → Shared S (getD vs r 0) (getD (s .registers) r noRow)
     reads-second q r rs t = reads r rs (set-others (s .spent .marks) q (r ∷ rs) t)
 
     -- MOD, TRUNC and BLOCKS, and LTZ and OVER: in range and with a mask
@@ -135,59 +134,62 @@ module _ {S : Setting} {K : ℕ} {u : Supply} {input : List Row} {d₀ : Deal} (
     nothing : (x : Row) → Took (s .deal) 0 0 0 (record { left = x; opened = []; deal = s .deal })
     nothing x = took-nothing S (G .parties .most) x (s .deal)
 
+    idle : {v : ℕ} {x : Row} → Shared S v x → Worked S v (record { left = x; opened = []; deal = s .deal })
+    idle X = record { left = X; opened = none }
+
     pub finish-holds : (c : Command) → T (inRanges (S .p) K c) → Passed u (cost (S .l) c) (s .spent)
         → Holds S d₀ (finish S input c s) (plainly (S .p) (secrets S input) (s .spent .inputs) c vs)
     unfolding finish perform plainly cost inRanges
     finish-holds END ok Q = holds-idle H
     finish-holds (LOAD d) ok Q =
         holds-put 1 [] H (ltb→lt d 64 ok) (nothing _)
-        (shareds-at (shareds-secrets (G .inputs-ok)) (s .spent .inputs) (omega (arith, Q .inputs, G .inputs-many)))
+        (idle (shareds-at (shareds-secrets (G .inputs-ok)) (s .spent .inputs) (omega (arith, Q .inputs, G .inputs-many))))
     finish-holds (CONST d v) ok Q =
         holds-put 0 [] H (low d _ ok) (nothing _)
-        (shared-constant S (G .field .modulus-is) (G .parties) (ltb→lt v (S .p) (and-right (register d) _ ok)))
+        (idle (shared-constant S (G .field .modulus-is) (G .parties) (ltb→lt v (S .p) (and-right (register d) _ ok))))
     finish-holds (ADD d a b) ok Q =
         holds-put 0 _ H (low₂ d (register a) (register b) ok) (nothing _)
-        (shared-plus S (G .field .modulus-is) (G .parties) (reads a _ (Q .reads)) (reads-second a b _ (Q .reads)))
+        (idle (shared-plus S (G .field .modulus-is) (G .parties) (reads a _ (Q .reads)) (reads-second a b _ (Q .reads))))
     finish-holds (SUB d a b) ok Q =
         holds-put 0 _ H (low₂ d (register a) (register b) ok) (nothing _)
-        (shared-minus S (G .field .modulus-is) (G .parties) (reads a _ (Q .reads)) (reads-second a b _ (Q .reads)))
+        (idle (shared-minus S (G .field .modulus-is) (G .parties) (reads a _ (Q .reads)) (reads-second a b _ (Q .reads))))
     finish-holds (SCALE d a v) ok Q =
         holds-put 0 _ H (low₂ d (register a) (ltb v (S .p)) ok) (nothing _)
-        (shared-times S (G .field .modulus-is) (G .parties) v (reads a _ (Q .reads)))
+        (idle (shared-times S (G .field .modulus-is) (G .parties) v (reads a _ (Q .reads))))
     finish-holds (MUL d a b) ok Q =
         holds-put 0 _ H (low₂ d (register a) (register b) ok) (took-product S (G .parties .most) _ _ _)
-        (shared-product S (G .field .modulus-is) (G .parties) _ (triples-left H) (reads a _ (Q .reads)) (reads-second a b _ (Q .reads)))
+        (worked-product S (G .field .modulus-is) (G .parties) _ (triples-left H) (reads a _ (Q .reads)) (reads-second a b _ (Q .reads)))
     finish-holds (MOD d a k m) ok Q =
         let R = ranges K d a k m ok in
         holds-put 0 _ H (low₃ d (register a) (kIn K k) (mIn k m) ok)
         (took-remainder S (G .parties .most) k m _ _ (size k m R (Q .masks)) (R .m-least) (fits k m R (Q .masks)))
-        (shared-remainder S (G .field) (G .parties) k m R _ (triples-left H) (mask k m R (Q .masks)) (reads a _ (Q .reads)))
+        (worked-remainder S (G .field) (G .parties) k m R _ (triples-left H) (mask k m R (Q .masks)) (reads a _ (Q .reads)))
     finish-holds (TRUNC d a k m) ok Q =
         let R = ranges K d a k m ok in
         holds-put 0 _ H (low₃ d (register a) (kIn K k) (mIn k m) ok)
         (took-floor S (G .parties .most) k m _ _ (size k m R (Q .masks)) (R .m-least) (fits k m R (Q .masks)))
-        (shared-floor S (G .field) (G .parties) k m R _ (triples-left H) (mask k m R (Q .masks)) (reads a _ (Q .reads)))
+        (worked-floor S (G .field) (G .parties) k m R _ (triples-left H) (mask k m R (Q .masks)) (reads a _ (Q .reads)))
     finish-holds (BLOCKS d a k m) ok Q =
         let R = ranges K d a k m ok in
         holds-put 0 _ H (low₃ d (register a) (kIn K k) (mIn k m) ok)
         (took-blocks S (G .parties .most) k m _ _ (size k m R (Q .masks)) (R .m-least) (fits k m R (Q .masks)))
-        (shared-blocks S (G .field) (G .parties) k m R _ (triples-left H) (mask k m R (Q .masks)) (reads a _ (Q .reads)))
+        (worked-blocks S (G .field) (G .parties) k m R _ (triples-left H) (mask k m R (Q .masks)) (reads a _ (Q .reads)))
     finish-holds (LTZ d a k) ok Q =
         let R = sign-ranges K d a k ok in
         holds-put 0 _ H (low₂ d (register a) (kIn K k) ok)
         (took-sign S (G .parties .most) k _ _ (size k (k - 1) R (Q .masks)) (omega (arith, R .m-least)) (fits k (k - 1) R (Q .masks)))
-        (shared-sign S (G .field) (G .parties) k (omega (arith, R .m-least)) (R .k-most) _ (triples-left H) (mask k (k - 1) R (Q .masks)) (reads a _ (Q .reads)))
+        (worked-sign S (G .field) (G .parties) k (omega (arith, R .m-least)) (R .k-most) _ (triples-left H) (mask k (k - 1) R (Q .masks)) (reads a _ (Q .reads)))
     finish-holds (OVER d a k v) ok Q =
         let R = sign-ranges K d a k (and-left (register d && register a && kIn K k) (ltb v (S .p)) ok) in
         holds-put 0 _ H (low₃ d (register a) (kIn K k) (ltb v (S .p)) ok)
         (took-over S (G .parties .most) k v _ _ (size k (k - 1) R (Q .masks)) (omega (arith, R .m-least)) (fits k (k - 1) R (Q .masks)))
-        (shared-over S (G .field) (G .parties) k v (omega (arith, R .m-least)) (R .k-most) (ltb→lt v (S .p) (and-right (register d && register a && kIn K k) (ltb v (S .p)) ok)) _
+        (worked-over S (G .field) (G .parties) k v (omega (arith, R .m-least)) (R .k-most) (ltb→lt v (S .p) (and-right (register d && register a && kIn K k) (ltb v (S .p)) ok)) _
         (triples-left H) (mask k (k - 1) R (Q .masks)) (reads a _ (Q .reads)))
     finish-holds (REVEAL a) ok Q =
-        holds-shown _ _ a H (length-sharing (G .field .modulus-is) (G .parties) (reads a [] (Q .reads) .sharing))
+        holds-shown _ _ a H (reads a [] (Q .reads) .sharing)
     finish-holds (BITLT d b w v) ok Q =
         let most = register d && register b && leb 1 w && leb w 31 in
         holds-put 0 _ H
         (low₃ d (register b) (leb 1 w) (leb w 31) (and-left most (leb (b + w) 64) (and-left (most && leb (b + w) 64) (ltb v (2 ^ w)) ok)))
         (rw (length-registers s b w) at (took-comparison S (G .parties .most) v (registersFrom s b w) (s .deal)))
-        (shared-comparison S (G .field .modulus-is) (G .parties) v _ (triples-left H) (shareds-from s (H .held) b w (Q .reads)))
+        (worked-comparison S (G .field .modulus-is) (G .parties) v _ (triples-left H) (shareds-from s (H .held) b w (Q .reads)))

@@ -60,7 +60,7 @@ module _ (h : Header) (log shown : ℕ) where
         triples-many = W .triples;
       }
 
-  well-formed : {d : Deal} → Formed (settingOf h) (supplyOf h log shown) d → WellFormed h d
+  pub well-formed : {d : Deal} → Formed (settingOf h) (supplyOf h log shown) d → WellFormed h d
   well-formed {d} F =
       record {
         masks = F .masks-many;
@@ -88,7 +88,7 @@ module _ (s : List ℕ) (xs : List Line) (end : ℕ) (number : sheetNumber s ≡
         inputs = shape-in h s .inputs;
       }
 
-  own-deal : (log shown : ℕ) → Formed (settingOf (headerOf s)) (supplyOf (headerOf s) log shown) (dealIn (headerOf s) s)
+  pub own-deal : (log shown : ℕ) → Formed (settingOf (headerOf s)) (supplyOf (headerOf s) log shown) (dealIn (headerOf s) s)
   own-deal log shown =
       let Q = sound s number in
       let h = headerOf s in
@@ -119,6 +119,7 @@ same-outcome set n a b {x} {y} Q =
       masks = rw (Q .spent);
       triples = rw (Q .spent);
       openings = rw (Q .spent);
+      values = rw (Q .spent);
       marks = rw (Q .spent);
       columns = Q .columns;
     }

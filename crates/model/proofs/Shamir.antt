@@ -1,9 +1,9 @@
 -- Shamir's sharing keeps its promises, for every field of the table and all parties and thresholds that the paper permits.
 -- Assumes nothing.
-use Prim.Native.Nat.{ℕ, _<_}
+use Prim.Native.Nat.{ℕ}
 use native.Mathlib.Omega.{arith}
-use Rattle.model.specs.Fields.{modulus, Modulus, Parties}
-use Rattle.model.specs.Shamir.{Shamir}
+use Rattle.model.specs.Fields.{Modulus, Parties}
+use Rattle.model.specs.Shamir.{Shamir, EverySharing}
 use Rattle.model.proofs.Fields.{fields}
 use Rattle.model.proofs.Polynomials.{positive}
 use Rattle.model.proofs.Sharings as Sharings
@@ -15,6 +15,8 @@ shamir-at {p} {n} {t} M P =
       recover-undoes = Sharings.recover-share M P;
       share-undoes = λ x. Sharings.sharing-iff M P x .1;
       test-exact = Sharings.test-exact M P;
+      shares-below = λ x. Sharings.shares-below M P;
+      secret-is = λ x. Sharings.secret-sharing M P;
       secret-below = Sharings.secret-lt M P;
       secret-weighted = secret-weighted M t (omega arith);
       sums = Sharings.closed M P (Sharings.add-linear (positive M));
@@ -26,5 +28,5 @@ shamir-at {p} {n} {t} M P =
       hidden = λ set x v G s k. Sharings.one-kept M P G x s k;
     }
 
-pub shamir : (f n t : ℕ) → f < 4 → Parties n t → Shamir (modulus f) n t
-shamir f n t h P = shamir-at (fields f h .modulus-is) P
+pub every-sharing : EverySharing
+every-sharing f n t h P = shamir-at (fields f h .modulus-is) P

@@ -1,4 +1,4 @@
--- A row that shares a value: how the row operations, MUL and BITLT work on the values.
+-- A row that shares a value: how the row operations, MUL and BITLT work on the values; and that what they open are sharings.
 -- Assumes nothing.
 use mathlib.Core.Path.{_≡_, refl, sym, ap, ap₂, _∙_}
 use mathlib.Core.Bool.{Bool, true, false, cond}
@@ -11,12 +11,13 @@ use Rattle.algebra.specs.Lists.{All, none, one, first, others}
 use Rattle.algebra.proofs.Ring.{ring, mod-ring, reduced, mul-lt}
 use Rattle.model.specs.Fields.{Modulus, Parties}
 use Rattle.model.specs.Sharing.{Sharing, secret}
-use Rattle.model.specs.Steps.{Setting, Row, Triple, Deal, odd, plus, minus, times, constant, value, beaver, noTriple, product, chosen, comparisonFrom, comparison, spelled}
+use Rattle.model.specs.Steps.{Setting, Row, Triple, Deal, Step, odd, plus, minus, times, constant, value, beaver, noTriple, product, chosen, comparisonFrom, comparison, spelled}
 use Rattle.model.specs.Sheet.{secrets}
 use Rattle.model.specs.Plain.{lessStep, lessFrom, less}
 use Rattle.model.proofs.Polynomials.{positive}
 use Rattle.model.proofs.Sharings.{add-linear, sub-linear, mul-linear, sharing-on, secret-on, sharing-constant, secret-constant}
 use Rattle.model.proofs.Unmasking.{spelt}
+use Rattle.model.proofs.Taking.{all-append}
 
 -- x is a sharing of v
 pub record Shared (S : Setting) (v : ℕ) (x : Row) : Type 0 where
@@ -26,6 +27,11 @@ pub record Shared (S : Setting) (v : ℕ) (x : Row) : Type 0 where
 pub data Shareds (S : Setting) : List ℕ → List Row → Type 0 where
   no-more : Shareds S [] []
   and : {v : ℕ} {vs : List ℕ} {x : Row} {xs : List Row} → Shared S v x → Shareds S vs xs → Shareds S (v ∷ vs) (x ∷ xs)
+
+-- a step that leaves a sharing of v, and opens sharings
+pub record Worked (S : Setting) (v : ℕ) (x : Step) : Type 0 where
+  pub left : Shared S v (x .left)
+  pub opened : All (Sharing (S .p) (S .n) (S .t)) (x .opened)
 
 -- a well-formed triple
 pub record TripleOk (S : Setting) (t : Triple) : Type 0 where
@@ -98,36 +104,40 @@ module _ (S : Setting) (M : Modulus (S .p)) (P : Parties (S .n) (S .t)) where
       let R = shared-plus (shared-plus (shared-plus C (shared-times a1 B)) (shared-times b1 A)) (shared-constant (mul-lt a1 b1 h)) in
       record { sharing = R .sharing; is = R .is ∙ rw (ea, eb) (simp mod-ring (ring h _ _ _ _ (omega arith))) }
 
-  pub shared-product : (d : Deal) {v w : ℕ} {x y : Row} → All (TripleOk S) (d .triples) → Shared S v x → Shared S w y
-      → Shared S (mul (S .p) v w) (product S x y d .left)
+  pub worked-product : (d : Deal) {v w : ℕ} {x y : Row} → All (TripleOk S) (d .triples) → Shared S v x → Shared S w y
+      → Worked S (mul (S .p) v w) (product S x y d)
   unfolding product
-  shared-product d {v} {w} T X Y =
+  worked-product d {v} {w} T X Y =
       let t = all-first T zero-triple in
       let A : Shared S _ _ = record { sharing = t .a-sharing; is = refl } in
       let B : Shared S _ _ = record { sharing = t .b-sharing; is = refl } in
-      shared-beaver v w _ t (opens (shared-minus X A)) (opens (shared-minus Y B))
+      let a1 = shared-minus X A in
+      let b1 = shared-minus Y B in
+      record { left = shared-beaver v w _ t (opens a1) (opens b1); opened = one (a1 .sharing) (one (b1 .sharing) none) }
 
   shared-chosen : (c : Bool) {b lt : ℕ} {x y q : Row} → Shared S b x → Shared S lt y → Shared S (mul (S .p) b lt) q
       → Shared S (lessStep (S .p) c b lt) (chosen S c x y q)
   shared-chosen true B L Q = Q
   shared-chosen false B L Q = shared-minus (shared-plus B L) Q
 
-  shared-from : (v : ℕ) {bs : List ℕ} {xs : List Row} {lt : ℕ} {y : Row} (d : Deal) → All (TripleOk S) (d .triples) → Shareds S bs xs → Shared S lt y
-      → Shared S (lessFrom (S .p) v bs lt) (comparisonFrom S v xs y d .left)
+  worked-from : (v : ℕ) {bs : List ℕ} {xs : List Row} {lt : ℕ} {y : Row} (d : Deal) → All (TripleOk S) (d .triples) → Shareds S bs xs → Shared S lt y
+      → Worked S (lessFrom (S .p) v bs lt) (comparisonFrom S v xs y d)
   unfolding comparisonFrom lessFrom product
-  shared-from v d T no-more L = L
-  shared-from v d T (and B Bs) L =
-      shared-from (v / 2) _ (all-others T) Bs (shared-chosen (odd v) B L (shared-product d T B L))
+  worked-from v d T no-more L = record { left = L; opened = none }
+  worked-from v d T (and B Bs) L =
+      let q = worked-product d T B L in
+      let r = worked-from (v / 2) _ (all-others T) Bs (shared-chosen (odd v) B L (q .left)) in
+      record { left = r .left; opened = all-append (q .opened) (r .opened) }
 
   shared-start : (c : Bool) {b : ℕ} {x : Row} → Shared S b x → Shared S (cond c 0 b) (cond c (constant S 0) x)
   shared-start true B = shared-zero
   shared-start false B = B
 
-  pub shared-comparison : (v : ℕ) {bs : List ℕ} {xs : List Row} (d : Deal) → All (TripleOk S) (d .triples) → Shareds S bs xs
-      → Shared S (less (S .p) v bs) (comparison S v xs d .left)
+  pub worked-comparison : (v : ℕ) {bs : List ℕ} {xs : List Row} (d : Deal) → All (TripleOk S) (d .triples) → Shareds S bs xs
+      → Worked S (less (S .p) v bs) (comparison S v xs d)
   unfolding comparison less
-  shared-comparison v d T no-more = shared-zero
-  shared-comparison v d T (and B Bs) = shared-from (v / 2) d T Bs (shared-start (odd v) B)
+  worked-comparison v d T no-more = record { left = shared-zero; opened = none }
+  worked-comparison v d T (and B Bs) = worked-from (v / 2) d T Bs (shared-start (odd v) B)
 
   pub shared-spelled : {bs : List ℕ} {xs : List Row} → Shareds S bs xs → Shared S (spelt (S .p) bs) (spelled S xs)
   unfolding spelled spelt

@@ -13,7 +13,7 @@ use Rattle.algebra.specs.Lists.{Below, from, sameList, Distinct}
 use Rattle.algebra.specs.Rows.{tab, row, on}
 use Rattle.algebra.proofs.Ring.{ring, mod-ring, reduced, add-lt, mul-lt, sub-lt}
 use Rattle.algebra.proofs.Lists.{below-nil, below-cons, in-from, length-from}
-use Rattle.algebra.proofs.Rows.{length-tab, getD-tab, length-row, row-at, row-ext}
+use Rattle.algebra.proofs.Rows.{length-tab, getD-tab, length-row, row-at, row-ext, row-below}
 use Rattle.algebra.proofs.Tests.{and-left, and-right, and-both}
 use Rattle.model.specs.Fields.{Modulus, Parties}
 use Rattle.model.specs.Sharing.{eval, share, Sharing, interpolate, at, recover, secret, isSharing}
@@ -118,6 +118,10 @@ module _ {p n t : ℕ} (M : Modulus p) (P : Parties n t) where
 
   pub share-lt : {x : List ℕ} → Sharing p n t x → (z : ℕ) → Seat n z → at 0 x z < p
   share-lt s z k = rw (value s 0 z k) (eval-lt (positive M) (s .poly) z)
+
+  pub shares-below : {x : List ℕ} → Sharing p n t x → Below p x
+  unfolding share
+  shares-below s = rw (s .is) (record { at = λ i k. row-below p n _ (positive M) (λ j l. eval-lt (positive M) (s .poly) (suc j)) i })
 
   pub length-sharing : {x : List ℕ} → Sharing p n t x → length x ≡ 7
   unfolding share

@@ -13,7 +13,7 @@ use lib.Signed.{mag, ltZ, shrZ}
 use Rattle.algebra.specs.Ring.{add, sub, mul}
 use Rattle.algebra.proofs.Ring.{by-quotients, ring, mod-ring, reduced, both-reduced, given, add-up, mul-lt, sub-lt}
 use Rattle.model.specs.Coding.{code}
-use Rattle.model.specs.Plain.{one}
+use Rattle.model.specs.Formulas.{one}
 use Rattle.model.proofs.Coding.{code-below}
 
 -- the sign of a difference

@@ -16,7 +16,8 @@ use Rattle.algebra.specs.Lists.{Below}
 use Rattle.algebra.proofs.Ring.{ring, mod-ring, reduced, add-lt, sub-lt, add-up}
 use Rattle.model.specs.Fields.{Field}
 use Rattle.model.specs.Sheet.{spell}
-use Rattle.model.specs.Plain.{less, rem, one}
+use Rattle.model.specs.Plain.{less, rem}
+use Rattle.model.specs.Formulas.{one}
 use Rattle.model.proofs.Bits.{bitsOf, below-take, spell-take, length-bits, below-bits, spell-small}
 use Rattle.model.proofs.Comparing.{one-lt, less-is}
 

@@ -22,10 +22,11 @@ registersSeen r [] rows = []
 registersSeen r (mark ∷ marks) [] = []
 registersSeen r (mark ∷ marks) (x ∷ rows) = oneSeen r mark x ++ registersSeen (suc r) marks rows
 
--- all that a run leaves: number, place, inputs, masks, triples and openings; the record; the revealed list; the registers
+-- all that a run leaves: number, place, inputs, masks, triples, openings and how many values were revealed; the record; the revealed list; the
+-- registers
 unfoldable pub seen : Outcome → List (List ℕ)
 seen x =
-    (x .number ∷ x .place ∷ x .inputs ∷ x .masks ∷ x .triples ∷ x .openings ∷ []) ∷ x .log ∷ x .revealed
+    (x .number ∷ x .place ∷ x .inputs ∷ x .masks ∷ x .triples ∷ x .openings ∷ x .values ∷ []) ∷ x .log ∷ x .revealed
     ∷ registersSeen 0 (x .marks) (x .registers)
 
 -- a run, and what the paper says that it leaves
@@ -42,7 +43,7 @@ ran header script shares log shown told =
 -- refused input: "Nothing is run. Both output buffers keep their contents, all registers are unset, all counts 0."
 abbrev pub stopped : List ℕ → List ℕ → List ℕ → ℕ → ℕ → Case
 stopped header script shares number place =
-    ran header script shares 3 1 ((number ∷ place ∷ 0 ∷ 0 ∷ 0 ∷ 0 ∷ []) ∷ (99 ∷ 99 ∷ 99 ∷ []) ∷ (99 ∷ []) ∷ [])
+    ran header script shares 3 1 ((number ∷ place ∷ 0 ∷ 0 ∷ 0 ∷ 0 ∷ 0 ∷ []) ∷ (99 ∷ 99 ∷ 99 ∷ []) ∷ (99 ∷ []) ∷ [])
 
 -- the same of a script in field f, with n = 3 and t = 1 and no row
 abbrev pub scripted : ℕ → List ℕ → ℕ → ℕ → Case

@@ -1,11 +1,13 @@
 -- The paper, "Fields and parties": signed numbers as field values, and back.
 -- Assumes nothing.
 use mathlib.Core.Path.{_≡_}
+use mathlib.Core.Logic.{_↔_}
 use mathlib.Core.Bool.{Bool, _&&_, cond}
 use Prim.Native.Nat.{ℕ, suc, _-_, _/_, _%_, _^_, _≤_, _<_}
 use lib.Dec.{T, leb}
 use lib.IntN.{ℤ, pos, negsuc, negℤ, _+ℤ_, _-ℤ_, _*ℤ_}
 use lib.Signed.{leZ, ltZ}
+use Rattle.model.specs.Fields.{modulus, largestK}
 
 -- "A signed number a from −2^(k−1) to 2^(k−1) − 1"
 unfoldable pub inRange : ℕ → ℤ → Bool
@@ -25,12 +27,18 @@ pub record Modulo (p : ℕ) (a : ℤ) (v : ℕ) : Type 0 where
   pub multiple : ℤ
   pub is : a ≡ pos v +ℤ multiple *ℤ pos p
 
--- What coding promises in a field p with largest k K. `code` is a modulo p: below p, and a is it plus a multiple of p. The k-bit range
--- has both its ends.
+-- What coding promises in a field p with largest k K. `code` is a modulo p: below p, and a is it plus a multiple of p. The k-bit range is 0 to
+-- 2^(k−1) − 1 and, negsuc n being −(n + 1), −1 to −2^(k−1). A value is read back as itself up to (p − 1)/2, and else as itself less p.
 pub record Codes (p K : ℕ) : Type 0 where
   pub below : (a : ℤ) → code p a < p
   pub modulo : (a : ℤ) → Modulo p a (code p a)
-  pub lowest : (k : ℕ) → T (inRange k (negℤ (pos (2 ^ (k - 1)))))
-  pub highest : (k : ℕ) → T (inRange k (pos (2 ^ (k - 1) - 1)))
+  pub range-up : (k n : ℕ) → T (inRange k (pos n)) ↔ (n < 2 ^ (k - 1))
+  pub range-down : (k n : ℕ) → T (inRange k (negsuc n)) ↔ (n < 2 ^ (k - 1))
+  pub reads-up : (v : ℕ) → v ≤ (p - 1) / 2 → readBack p v ≡ pos v
+  pub reads-down : (v : ℕ) → (p - 1) / 2 < v → v < p → readBack p v ≡ negsuc (p - 1 - v)
   pub reading-undoes : (k : ℕ) (a : ℤ) → 2 ≤ k → k ≤ K → T (inRange k a) → readBack p (code p a) ≡ a
   pub coding-undoes : (v : ℕ) → v < p → code p (readBack p v) ≡ v
+
+-- for every field of the table
+abbrev pub EveryCoding : Type 0
+EveryCoding = (f : ℕ) → f < 4 → Codes (modulus f) (largestK f)

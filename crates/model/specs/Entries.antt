@@ -1,9 +1,9 @@
 -- The paper, "Fields and parties": the small entries share, recover, encode and decode. "These small entries refuse in this order: 2; 3;
 -- 4 for a list of the wrong length (t coefficients, n shares, and the lent outputs alike); 5 for a secret, coefficient, share or field
 -- value not below p; 6 for a row that is no sharing; 11 for a k not from 2 to the field's largest, or a number outside the k-bit range.
--- A refusal gives the value 0 and writes nothing." The number of an answer is 0 where nothing refuses.
+-- A refusal gives the value 0 and writes nothing."
 -- Assumes nothing.
-use mathlib.Core.Bool.{Bool, _&&_, cond}
+use mathlib.Core.Bool.{Bool, _&&_}
 use mathlib.Core.List.{List, _∷_}
 use Prim.Native.Nat.{ℕ}
 use lib.Dec.{ltb, leb, eqb}
@@ -12,16 +12,9 @@ use lib.ListN.{length, take, drop}
 use Rattle.algebra.specs.Lists.{allBelow}
 use Rattle.algebra.specs.Rows.{padded}
 use Rattle.model.specs.Fields.{modulus, largestK, parties}
+pub use Rattle.model.specs.Refusing.{tried, given}
 use Rattle.model.specs.Coding.{inRange, code, readBack}
 use Rattle.model.specs.Sharing.{share, recover, secret, isSharing}
-
--- the number of a test that fails, else that of the tests after it
-abbrev pub tried : Bool → ℕ → ℕ → ℕ
-tried passes number next = cond passes next number
-
--- what is given where the number is 0, and what stands for it in a refusal
-abbrev pub given {ℓ} : {A : Type ℓ} → ℕ → A → A → A
-given number done refused = cond (eqb number 0) done refused
 
 -- 2, 3 and 4, which share and recover try alike, the two lists' lengths being right or not
 abbrev pub fitted : ℕ → ℕ → ℕ → Bool → ℕ → ℕ

@@ -1,10 +1,11 @@
 -- The paper, "Fields and parties": the four fields, and who may share with which threshold.
 -- Assumes nothing.
 use mathlib.Core.Path.{_≡_}
+use mathlib.Core.Logic.{_↔_}
 use mathlib.Core.Bool.{Bool, _&&_}
 use mathlib.Core.List.{[], _∷_}
-use Prim.Native.Nat.{ℕ, zero, suc, _+_, _*_, _/_, _%_, _^_, _≤_, _<_}
-use lib.Dec.{leb}
+use Prim.Native.Nat.{ℕ, zero, suc, _+_, _-_, _*_, _/_, _%_, _^_, _≤_, _<_}
+use lib.Dec.{T, leb}
 use lib.ListN.{getD}
 use Rattle.algebra.specs.Ring.{mul}
 
@@ -45,9 +46,11 @@ pub record Modulus (p : ℕ) : Type 0 where
 pub record Field (p l k : ℕ) : Type 0 where
   pub modulus-is : Modulus p
   pub bits-hold : p < 2 ^ l
+  pub bits-needed : 2 ^ (l - 1) < p
   pub range-fits : 2 ^ k < p
   pub k-least : 2 ≤ k
   pub k-most : k < 31
+  pub k-is : suc k ≡ l
 
 -- "Parties: 3 to 7, threshold t at least 1, 2t + 1 at most n."
 pub record Parties (n t : ℕ) : Type 0 where
@@ -59,3 +62,12 @@ pub record Parties (n t : ℕ) : Type 0 where
 -- `Parties` as a test
 unfoldable pub parties : ℕ → ℕ → Bool
 parties n t = leb 3 n && leb n 7 && leb 1 t && leb (2 * t + 1) n
+
+-- the test is exact
+abbrev pub PartiesTested : Type 0
+PartiesTested = (n t : ℕ) → T (parties n t) ↔ Parties n t
+
+-- Every field of the table has the facts of `Field`, and there `inversePowerOf2` is the inverse of 2^m.
+pub record EveryField : Type 0 where
+  pub field : (f : ℕ) → f < 4 → Field (modulus f) (bits f) (largestK f)
+  pub inverses : (f m : ℕ) → f < 4 → mul (modulus f) (powerOf2 (modulus f) m) (inversePowerOf2 (modulus f) m) ≡ 1

@@ -7,7 +7,7 @@ use lib.ListN.{length, getD}
 use Rattle.algebra.specs.Lists.{Below}
 use Rattle.algebra.specs.Rows.{row}
 use Rattle.model.specs.Fields.{bits}
-use Rattle.model.specs.Steps.{Row, Deal}
+use Rattle.model.specs.Deal.{Row, Deal}
 use Rattle.model.specs.Sheet.{Header, headerOf, impliedLength, scriptIn, inputIn, dealIn, dealRows, sheetOf}
 
 -- a row as a sheet has it: n shares of 32 bits, and 0 past them

@@ -4,18 +4,17 @@ use mathlib.Core.Bool.{Bool, true, false, _&&_}
 use mathlib.Core.List.{List, [], _∷_, _++_}
 use Prim.Native.Nat.{ℕ, zero, suc, _+_, _*_}
 use lib.Dec.{leb}
-use lib.ListN.{length, getD, set, take, replicate}
+use lib.ListN.{length, getD, set, replicate}
 use Rattle.algebra.specs.Lists as Lists
 use Rattle.model.specs.Fields.{largestK}
-use Rattle.model.specs.Entries.{tried}
-use Rattle.model.specs.Steps.{Setting, Row, Deal, Step, plus, minus, times, constant, value, product, comparison, remainder, floor, sign, over, blocks}
+use Rattle.model.specs.Refusing.{tried}
+use Rattle.model.specs.Deal.{Setting, Row, Deal}
+pub use Rattle.model.specs.Deal.{noRow}
+use Rattle.model.specs.Steps.{Step, plus, minus, times, constant, value, product, comparison, remainder, floor, sign, over, blocks}
+unfoldable pub use Rattle.model.specs.Steps.{written}
 use Rattle.model.specs.Script.{Command, END, LOAD, CONST, ADD, SUB, SCALE, MUL, MOD, TRUNC, LTZ, OVER, BLOCKS, REVEAL, BITLT, Line, Script, accepted, refused, scriptOf}
 use Rattle.model.specs.Costs.{Cost, cost}
 use Rattle.model.specs.Sheet.{Header, headerOf, settingOf, scriptIn, inputIn, dealIn, sheetNumber}
-
--- "A table of 64 registers by n columns", each a row; "the cells of an unset register are 0": this row
-abbrev pub noRow : Row
-noRow = 0 ∷ 0 ∷ 0 ∷ 0 ∷ 0 ∷ 0 ∷ 0 ∷ []
 
 -- What was spent and which registers are set: all that the checks look at.
 pub record Spent : Type 0 where
@@ -153,7 +152,8 @@ nothingSpent = record { inputs = 0; masks = 0; triples = 0; openings = 0; reveal
 unfoldable pub start : Deal → State
 start d = record { spent = nothingSpent; registers = replicate 64 noRow; deal = d; opened = []; shown = [] }
 
--- "The answer holds number, place, inputs, masks, triples, openings, the registers and which are set", and both lent buffers. The paper's
+-- "The answer holds number, place, inputs, masks, triples, openings, the registers and which are set", and both lent buffers. With them stands
+-- how many values were revealed, which the paper's answer leaves to be computed from the counts (`Balance` in Exactness.antt). The paper's
 -- record, the list of opened shares, is called log here: record is a word of this language.
 pub record Outcome : Type 0 where
   pub number : ℕ
@@ -162,15 +162,11 @@ pub record Outcome : Type 0 where
   pub masks : ℕ
   pub triples : ℕ
   pub openings : ℕ
+  pub values : ℕ
   pub registers : List Row
   pub marks : List Bool
   pub log : List ℕ
   pub revealed : List ℕ
-
--- "Opening: the n shares go to the record, party 1 first": the record's numbers, opening by opening
-unfoldable pub written : ℕ → List Row → List ℕ
-written n [] = []
-written n (x ∷ xs) = take n x ++ written n xs
 
 -- what a stop leaves in the buffers: "past what was written they are unchanged"
 unfoldable pub outcome : ℕ → List ℕ → List ℕ → Stop → Outcome
@@ -183,6 +179,7 @@ outcome n log revealed x =
       masks = s .spent .masks;
       triples = s .spent .triples;
       openings = s .spent .openings;
+      values = s .spent .revealed;
       registers = s .registers;
       marks = s .spent .marks;
       log = Lists.over (written n (s .opened)) log;

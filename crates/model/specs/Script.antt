@@ -1,5 +1,6 @@
 -- The paper, the table of commands: what the bytes of a script say, and the refusals 9 to 11 of a whole script with their places.
 -- Assumes nothing.
+use mathlib.Core.Path.{_≡_}
 use mathlib.Core.Bool.{Bool, true, _&&_, cond}
 use mathlib.Core.List.{List, [], _∷_}
 use Prim.Native.Nat.{ℕ, zero, suc, _+_, _^_}
@@ -20,17 +21,18 @@ pub data Command : Type 0 where
   REVEAL : ℕ → Command
   BITLT : ℕ → ℕ → ℕ → ℕ → Command
 
--- "d, a, b are one-byte registers 0 to 63; k, m, w one byte; v four bytes": by the byte at place i of a script, the command whose operands
--- follow it
-unfoldable pub commandAt : List ℕ → ℕ → Command
-commandAt s i =
+-- "d, a, b are one-byte registers 0 to 63; k, m, w one byte; v four bytes": the commands 00 to 0D with the operands that follow place i of a
+-- script, and the one that the byte at place i says
+abbrev pub commandsAt : List ℕ → ℕ → List Command
+commandsAt s i =
     let o : ℕ → ℕ = λ j. getD s (i + j) 0 in
     let v : ℕ → ℕ = λ j. number 4 s (i + j) in
-    getD
-    (END ∷ LOAD (o 1) ∷ CONST (o 1) (v 2) ∷ ADD (o 1) (o 2) (o 3) ∷ SUB (o 1) (o 2) (o 3) ∷ SCALE (o 1) (o 2) (v 3) ∷ MUL (o 1) (o 2) (o 3)
+    END ∷ LOAD (o 1) ∷ CONST (o 1) (v 2) ∷ ADD (o 1) (o 2) (o 3) ∷ SUB (o 1) (o 2) (o 3) ∷ SCALE (o 1) (o 2) (v 3) ∷ MUL (o 1) (o 2) (o 3)
     ∷ MOD (o 1) (o 2) (o 3) (o 4) ∷ TRUNC (o 1) (o 2) (o 3) (o 4) ∷ LTZ (o 1) (o 2) (o 3) ∷ OVER (o 1) (o 2) (o 3) (v 4)
-    ∷ BLOCKS (o 1) (o 2) (o 3) (o 4) ∷ REVEAL (o 1) ∷ BITLT (o 1) (o 2) (o 3) (v 4) ∷ [])
-    (getD s i 0) END
+    ∷ BLOCKS (o 1) (o 2) (o 3) (o 4) ∷ REVEAL (o 1) ∷ BITLT (o 1) (o 2) (o 3) (v 4) ∷ []
+
+unfoldable pub commandAt : List ℕ → ℕ → Command
+commandAt s i = getD (commandsAt s i) (getD s i 0) END
 
 -- how many bytes each command takes, from 00 to 0D: its own, one for each of d, a, b, k, m and w, and four for v
 abbrev pub sizes : List ℕ
@@ -114,3 +116,7 @@ scriptFrom (suc most) p K s i = scriptStep (numberAt p K s i) s i (scriptFrom mo
 -- from the script's start
 unfoldable pub scriptOf : ℕ → ℕ → List ℕ → Script
 scriptOf p K s = scriptFrom (suc (length s)) p K s 0
+
+-- so many commands are enough for every script: more would be read alike
+abbrev pub WholeScript : Type 0
+WholeScript = (p K more : ℕ) (s : List ℕ) → scriptFrom (more + suc (length s)) p K s 0 ≡ scriptOf p K s

@@ -1,7 +1,8 @@
 -- The paper, "Refused because of the input": scripts that 9 to 11 refuse, and the last that they let through.
 -- The reference writes this table (reference model-cases).
 -- Assumes nothing.
-use mathlib.Core.List.{List, [], _∷_}
+use mathlib.Core.List.{List, [], _∷_, _++_}
+use lib.ListN.{replicate}
 use Rattle.model.specs.CaseForms.{Case, scripted}
 
 unfoldable pub scriptCases : List Case
@@ -26,6 +27,8 @@ scriptCases =
     ∷ scripted 0 (1 ∷ 0 ∷ 0 ∷ 14 ∷ []) 10 3
     -- 10: nor is it tried for 11
     ∷ scripted 0 (1 ∷ 0 ∷ 0 ∷ 1 ∷ 64 ∷ 0 ∷ []) 10 3
+    -- 22: 100 times LOAD 1, and END: a longer script is read whole
+    ∷ scripted 0 (replicate 200 1 ++ 0 ∷ []) 22 0
     -- 10: operands cut off: the place is the command's offset
     ∷ scripted 0 (1 ∷ 0 ∷ 1 ∷ []) 10 2
     ∷ scripted 0 (1 ∷ 0 ∷ 2 ∷ 1 ∷ 4 ∷ 0 ∷ 0 ∷ []) 10 2

@@ -14,7 +14,7 @@ use Rattle.algebra.specs.Lists.{All}
 use Rattle.model.specs.Fields.{bits}
 use Rattle.model.specs.Sharing.{Sharing}
 use Rattle.model.specs.Shamir.{Group, Agree}
-use Rattle.model.specs.Steps.{Row, Deal}
+use Rattle.model.specs.Deal.{Row, Deal}
 use Rattle.model.specs.Sheet.{Header, headerOf, settingOf, scriptIn, inputIn, dealRows, goodMask, goodTriple, sheetOf}
 use Rattle.model.specs.Run.{Outcome, stopOf, run}
 use Rattle.model.specs.Exactness.{Accepted}
@@ -45,12 +45,17 @@ pub record SameTo (set : List ℕ) (x y : Outcome) : Type 0 where
   pub masks : x .masks ≡ y .masks
   pub triples : x .triples ≡ y .triples
   pub openings : x .openings ≡ y .openings
+  pub values : x .values ≡ y .values
   pub marks : x .marks ≡ y .marks
   pub columns : Alike set (x .registers) (y .registers)
 
--- "Running an input on a deal is running the sheet made of header, script, input and deal": the input and the script of the sheet s
+-- "Running an input on a deal is running the sheet made of header, script, input and deal": those of the sheet s but for the deal. That this sheet
+-- is accepted and has these parts is stated in RealRuns.antt.
+abbrev pub madeOn : List ℕ → Deal → List ℕ
+madeOn s d = sheetOf (headerOf s) (scriptIn (headerOf s) s) (inputIn (headerOf s) s) d
+
 abbrev pub runOn : List ℕ → Deal → List ℕ → List ℕ → Outcome
-runOn s d = run (sheetOf (headerOf s) (scriptIn (headerOf s) s) (inputIn (headerOf s) s) d)
+runOn s d = run (madeOn s d)
 
 -- "a one-to-one map of all well-formed deals onto themselves that keeps that set's dealt shares": a map and the map that undoes it
 pub record Veil (set s s′ : List ℕ) (log shown : ℕ) : Type 0 where

@@ -5,13 +5,15 @@ use mathlib.Core.Logic.{_↔_}
 use mathlib.Core.List.{List, List·Memᴰ as In}
 use Prim.Native.Nat.{ℕ, suc, _%_, _≤_, _<_}
 use lib.Dec.{T}
+use lib.IntN.{ℤ}
 use lib.ListN.{length}
 use Rattle.algebra.specs.Ring.{add, sub, mul}
 use Rattle.algebra.specs.Lists.{Below, from, Distinct}
 use Rattle.algebra.specs.Rows.{row, on, padded}
-use Rattle.model.specs.Fields.{modulus}
-use Rattle.model.specs.Sharing.{Sharing, share, recover, secret, isSharing, at, weighted}
-use Rattle.model.specs.Entries.{shareNumber, shareLeft, recoverNumber, recoverValue, recoverLeft}
+use Rattle.model.specs.Fields.{Parties, modulus, largestK}
+use Rattle.model.specs.Coding.{inRange}
+use Rattle.model.specs.Sharing.{Sharing, eval, share, recover, secret, isSharing, at, weighted}
+use Rattle.model.specs.Entries.{shareNumber, shareLeft, recoverNumber, recoverValue, recoverLeft, encodeNumber, encodeValue, decodeNumber, decodeValue}
 
 -- c distinct points of 0 to n
 pub record Points (n c : ℕ) (xs : List ℕ) : Type 0 where
@@ -47,6 +49,9 @@ pub record Shamir (p n t : ℕ) : Type 0 where
   pub share-undoes : (x : List ℕ) → Sharing p n t x → share p n (recover p t x) ≡ x
   -- the test is exact
   pub test-exact : (x : List ℕ) → T (isSharing p n t x) ↔ Sharing p n t x
+  -- "A cell is a share, a whole number from 0 to p − 1"; "its secret is the value at 0" of the one polynomial
+  pub shares-below : (x : List ℕ) → Sharing p n t x → Below p x
+  pub secret-is : (x : List ℕ) (s : Sharing p n t x) → secret p t x ≡ eval p (s .poly) 0
   -- a secret is below p, and is the weighted sum of the shares of parties 1 to t + 1, reduced once
   pub secret-below : (x : List ℕ) → secret p t x < p
   pub secret-weighted : (x : List ℕ) → weighted p (from 1 (suc t)) (at 0 x) % p ≡ secret p t x
@@ -73,3 +78,20 @@ pub record Entries (f n t : ℕ) : Type 0 where
       × (shareLeft f n t (recoverValue f n t xs out) (recoverLeft f n t xs out) out′ ≡ xs)
   pub six-exact : (xs out : List ℕ) → length xs ≡ n → length out ≡ t → Below (modulus f) xs
       → (recoverNumber f n t xs out ≡ 6) ↔ (Sharing (modulus f) n t (padded xs) → ⊥)
+
+-- Of encode and decode: what encode accepts decode gives back, and what decode gives, in the k-bit range, encode takes back.
+pub record CodeEntries (f : ℕ) : Type 0 where
+  pub decode-undoes : (k : ℕ) (a : ℤ) → encodeNumber f k a ≡ 0 → (decodeNumber f (encodeValue f k a) ≡ 0) × (decodeValue f (encodeValue f k a) ≡ a)
+  pub encode-undoes : (k v : ℕ) → 2 ≤ k → k ≤ largestK f → decodeNumber f v ≡ 0 → T (inRange k (decodeValue f v))
+      → (encodeNumber f k (decodeValue f v) ≡ 0) × (encodeValue f k (decodeValue f v) ≡ v)
+
+-- "Sharing and reconstruction are Shamir's, each undoing the other": for every field of the table, and all parties and thresholds that the paper
+-- permits
+abbrev pub EverySharing : Type 0
+EverySharing = (f n t : ℕ) → f < 4 → Parties n t → Shamir (modulus f) n t
+
+abbrev pub EveryEntry : Type 0
+EveryEntry = (f n t : ℕ) → f < 4 → Parties n t → Entries f n t
+
+abbrev pub EveryCodeEntry : Type 0
+EveryCodeEntry = (f : ℕ) → f < 4 → CodeEntries f

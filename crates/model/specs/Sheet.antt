@@ -10,9 +10,9 @@ use Rattle.algebra.specs.Ring.{mul}
 use Rattle.algebra.specs.Lists.{allBelow}
 use Rattle.model.specs.Fields.{modulus, bits, parties}
 use Rattle.model.specs.Sharing.{secret, isSharing}
-use Rattle.model.specs.Entries.{tried}
+use Rattle.model.specs.Refusing.{tried}
 use Rattle.model.specs.Bytes.{number, rowAt}
-use Rattle.model.specs.Steps.{Setting, Row, Triple, Deal}
+use Rattle.model.specs.Deal.{Setting, Row, Triple, Deal}
 
 -- "One byte each: field, n, t. Two bytes each: input rows (at most 64), masks (at most 16), triples (at most 512), script length (at most
 -- 1,024). That header is 11 bytes."

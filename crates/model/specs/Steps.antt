@@ -1,4 +1,5 @@
 -- The paper, "Steps": opening, MUL, BITLT, MOD, TRUNC, LTZ, OVER and BLOCKS, each on rows and on the deal that is left.
+-- What Deal.antt defines is passed on.
 -- Assumes nothing.
 use mathlib.Core.Bool.{Bool, true, false, cond}
 use mathlib.Core.List.{List, [], _∷_, _++_}
@@ -10,26 +11,7 @@ use Rattle.algebra.specs.Lists.{first, others}
 use Rattle.algebra.specs.Rows.{row, on}
 use Rattle.model.specs.Fields.{inversePowerOf2}
 use Rattle.model.specs.Sharing.{secret}
-
--- The field's modulus, the bits of a mask, the parties and the threshold that a sheet is worked with.
-pub record Setting : Type 0 where
-  pub p : ℕ
-  pub l : ℕ
-  pub n : ℕ
-  pub t : ℕ
-
--- The paper's terms: a row is n shares; a mask is its rows, bit 0 first; a triple is three rows; the deal is masks and triples.
-abbrev pub Row : Type 0
-Row = List ℕ
-
-pub record Triple : Type 0 where
-  pub a : Row
-  pub b : Row
-  pub c : Row
-
-pub record Deal : Type 0 where
-  pub masks : List (List Row)
-  pub triples : List Triple
+pub use Rattle.model.specs.Deal.{Setting, Row, Triple, Deal}
 
 -- What a step leaves: its row, the rows that it opened, in order, and the deal that is left.
 pub record Step : Type 0 where
@@ -47,6 +29,11 @@ lessMask d = record { masks = others (d .masks); triples = d .triples }
 -- a step that opened the rows os before it
 abbrev pub after : List Row → Step → Step
 after os s = record { left = s .left; opened = os ++ s .opened; deal = s .deal }
+
+-- "Opening: the n shares go to the record, party 1 first": the record's numbers, opening by opening
+unfoldable pub written : ℕ → List Row → List ℕ
+written n [] = []
+written n (x ∷ xs) = take n x ++ written n xs
 
 -- v's lowest bit is 1
 abbrev pub odd : ℕ → Bool
@@ -67,7 +54,7 @@ module _ (S : Setting) where
   constant v = row (S .n) (λ _. v)
 
   -- "Opening: the n shares go to the record, party 1 first, and the value at 0 becomes public." This is the value at 0. A step lists the rows
-  -- that it opens; `written` and `outcome` in Run.antt put their shares in the record.
+  -- that it opens; `written` has their shares, and `outcome` in Run.antt puts them in the record.
   unfoldable pub value : Row → ℕ
   value x = secret (S .p) (S .t) x
 

@@ -1,18 +1,19 @@
-// The paper's lines of a run.
+// The paper's lines of a run. What is lent has all the numbers that are to be printed, so that no line is left out.
+ghost use Prim.Native.Nat.{_*_, _≤_};
+ghost use lib.ListN.{length};
 use crate::number::count;
 use crate::number::line_end;
 use crate::number::list_line;
 use crate::number::number;
 use crate::number::signed;
 
-// A line for each row of n numbers, each after the text: so many rows from the start of the list, as far as it goes.
-pub fn rows(text: &[u8], n: usize, many: usize, xs: &[u32]) {
+// A line for each row of n numbers, each after the text: so many rows from the start of the list.
+pub fn rows(text: &[u8], n: usize, many: usize, xs: &[u32])
+    requires { ⌜ many * n ≤ length (now xs) ⌝ }
+{
     let mut at = 0;
     let mut i = 0;
     while i < many {
-        if xs.len() - at < n {
-            return;
-        }
         list_line(text, &xs[at..at + n]);
         at += n;
         i += 1;
@@ -20,7 +21,9 @@ pub fn rows(text: &[u8], n: usize, many: usize, xs: &[u32]) {
 }
 
 // A line for each opening, whose n shares stand in the record.
-pub fn opened(n: usize, openings: usize, log: &[u32]) {
+pub fn opened(n: usize, openings: usize, log: &[u32])
+    requires { ⌜ openings * n ≤ length (now log) ⌝ }
+{
     rows(b"opened", n, openings, log);
 }
 
@@ -31,13 +34,12 @@ fn revealed_value(field: u32, v: u32) {
     line_end();
 }
 
-// A line for each revealed value: so many from the start of the list, as far as it goes.
-pub fn revealed(field: u32, values: usize, xs: &[u32]) {
+// A line for each revealed value: so many from the start of the list.
+pub fn revealed(field: u32, values: usize, xs: &[u32])
+    requires { ⌜ values ≤ length (now xs) ⌝ }
+{
     let mut i = 0;
     while i < values {
-        if xs.len() <= i {
-            return;
-        }
         revealed_value(field, xs[i]);
         i += 1;
     }

@@ -1,16 +1,17 @@
 -- What share_number and recover_number answer at each of their returns, of any lent list of the length that they were given.
 -- Assumes nothing.
-use mathlib.Core.Path.{_≡_, sym, _∙_}
+use mathlib.Core.Path.{_≡_, refl, sym, _∙_}
 use mathlib.Core.Bool.{Bool, true, false, _&&_}
 use mathlib.Core.List.{List, _∷_}
 use Prim.Native.Nat.{ℕ, _≤_, _<_}
-use lib.Dec.{eqb}
+use native.Mathlib.Omega.{arith}
+use lib.Dec.{ltb, eqb}
 use lib.ListN.{length, getD}
 use Rattle.algebra.specs.Lists.{allBelow}
 use Rattle.algebra.specs.Rows.{row, padded}
 use Rattle.algebra.proofs.Lists.{below-first, first-fails}
 use Rattle.algebra.proofs.Rows.{row-again}
-use Rattle.model.specs.Fields.{modulus}
+use Rattle.model.specs.Fields.{modulus, parties}
 use Rattle.model.specs.Sharing.{isSharing}
 use Rattle.model.specs.Entries.{tried, fitted, shareNumber, recoverNumber}
 use Rattle.model.proofs.Entries.{Fit, fitted-passed, fitted-pass, fitted-early}
@@ -18,6 +19,18 @@ use Rattle.model.proofs.Entries.{Fit, fitted-passed, fitted-pass, fitted-early}
 -- 2, 3 and 4 were passed
 pub fit : (f n t a i b j : ℕ) {r : ℕ} → r ≡ fitted f n t (eqb a i && eqb b j) 0 → r ≡ 0 → Fit f n t a i b j
 fit f n t a i b j e z = fitted-passed f n t a i b j 0 (sym e ∙ z) .0
+
+-- and so they were where share answers none of them, whatever it refuses after them
+pub share-fits : (f n t s : ℕ) (cs out : List ℕ) {r : ℕ} → r ≡ shareNumber f n t s cs out → (2 ≤ r → 4 < r) → Fit f n t (length cs) t (length out) n
+unfolding shareNumber
+share-fits f n t s cs out {r} e k =
+    fitted-passed f n t (length cs) t (length out) n 0 (go (ltb f 4) (parties n t) (eqb (length cs) t && eqb (length out) n) _ e) .0
+  where
+    go : (a b c : Bool) (next : ℕ) → r ≡ tried a 2 (tried b 3 (tried c 4 next)) → tried a 2 (tried b 3 (tried c 4 0)) ≡ 0
+    go false b c next e = absurd (omega (arith, k (omega arith)))
+    go true false c next e = absurd (omega (arith, k (omega arith)))
+    go true true false next e = absurd (omega (arith, k (omega arith)))
+    go true true true next e = refl
 
 module _ (f n t s lent : ℕ) (cs : List ℕ) {r : ℕ} (e : r ≡ fitted f n t (eqb (length cs) t && eqb lent n) 0) where
   pub share-early : (r ≡ 0 → ⊥) → (out : List ℕ) → length out ≡ lent → r ≡ shareNumber f n t s cs out

@@ -1,18 +1,16 @@
 -- The refusals 1 to 4, and the frame of a header that they pass.
 -- Assumes nothing.
 use mathlib.Core.Path.{_≡_, refl, ap, _∙_}
-use mathlib.Core.Bool.{true, false, _&&_}
+use mathlib.Core.Bool.{true, false}
 use mathlib.Core.List.{List}
 use Prim.Native.Nat.{ℕ, _+_, _*_, _≤_, _<_}
-use native.Mathlib.Nat.{mul-le-mul}
-use native.Mathlib.Omega.{arith}
 use borrow.Author.Tests.{lt-ltb, le-ltb, le-leb, lt-leb, eq-eqb, ne-eqb}
-use lib.Dec.{T, leb, leb→le}
+use lib.Dec.{T}
 use lib.ListN.{length, getD}
-use Rattle.algebra.proofs.Tests.{and-left, and-right, every-at}
 use Rattle.model.specs.Bytes.{number}
 use Rattle.model.specs.Fields.{modulus, bits, largestK, Parties, parties}
 use Rattle.model.specs.Sheet.{Header, headerOf, limits, impliedLength}
+use Rattle.model.proofs.Lengths.{fitting}
 use Rattle.sheet.specs.Framed.{Framed}
 use Rattle.sheet.specs.Reading.{headerNumber}
 
@@ -21,41 +19,6 @@ pub header-is : (s : List ℕ) {field n t inputs masks triples script : ℕ} →
     → _≡_ {A = Header} (record { field = field; n = n; t = t; inputs = inputs; masks = masks; triples = triples; script = script }) (headerOf s)
 unfolding headerOf
 header-is s a b c d e f g = λ i. record { field = a i; n = b i; t = c i; inputs = d i; masks = e i; triples = f i; script = g i }
-
-pub bits-most : (f : ℕ) → f < 4 → bits f ≤ 31
-unfolding bits
-bits-most f h = leb→le (bits f) 31 (every-at 4 (λ g. leb (bits g) 31) tt f h)
-
--- the counts within their limits, and what follows for places
-pub record Fitting (h : Header) : Type 0 where
-  pub inputs-most : h .inputs ≤ 64
-  pub masks-most : h .masks ≤ 16
-  pub triples-most : h .triples ≤ 512
-  pub script-most : h .script ≤ 1024
-  pub mask-rows-most : h .n * bits (h .field) ≤ 217
-  pub inputs-fit : h .n * h .inputs ≤ 448
-  pub masks-fit : h .n * bits (h .field) * h .masks ≤ 3472
-  pub triples-fit : h .n * h .triples ≤ 3584
-
-pub fitting : (h : Header) → h .field < 4 → h .n ≤ 7 → T (limits h) → Fitting h
-unfolding limits
-fitting h f m t =
-    let three = and-left (leb (h .inputs) 64 && leb (h .masks) 16 && leb (h .triples) 512) (leb (h .script) 1024) t in
-    let two = and-left (leb (h .inputs) 64 && leb (h .masks) 16) (leb (h .triples) 512) three in
-    let a = leb→le (h .inputs) 64 (and-left (leb (h .inputs) 64) (leb (h .masks) 16) two) in
-    let b = leb→le (h .masks) 16 (and-right (leb (h .inputs) 64) (leb (h .masks) 16) two) in
-    let c = leb→le (h .triples) 512 (and-right (leb (h .inputs) 64 && leb (h .masks) 16) (leb (h .triples) 512) three) in
-    let rows = mul-le-mul {n₂ = 7} {m₂ = 31} m (bits-most (h .field) f) in
-    record {
-      inputs-most = a;
-      masks-most = b;
-      triples-most = c;
-      script-most = leb→le (h .script) 1024 (and-right (leb (h .inputs) 64 && leb (h .masks) 16 && leb (h .triples) 512) (leb (h .script) 1024) t);
-      mask-rows-most = rows;
-      inputs-fit = mul-le-mul {n₂ = 7} {m₂ = 64} m a;
-      masks-fit = mul-le-mul {n₂ = 217} {m₂ = 16} rows b;
-      triples-fit = mul-le-mul {n₂ = 7} {m₂ = 512} m c;
-    }
 
 module _ (h : Header) (f : h .field < 4) (P : Parties (h .n) (h .t)) (t : T (limits h)) {p l k : ℕ} (ep : p ≡ modulus (h .field)) (el : l ≡ bits (h .field))
     (ek : k ≡ largestK (h .field)) where
@@ -101,10 +64,6 @@ module _ (h : Header) (f : h .field < 4) (P : Parties (h .n) (h .t)) (t : T (lim
   pub end-is : 11 + h .script + 4 * h .n * h .inputs + 4 * h .n * l * h .masks + 4 * h .n * 3 * h .triples ≡ impliedLength h
   unfolding impliedLength
   end-is = rw el
-
-  pub length-most : impliedLength h ≤ 59723
-  unfolding impliedLength
-  length-most = omega (arith, fitting h f (P .most) t)
 
 -- the number, test by test
 pub refused-1 : (s : List ℕ) → length s < 11 → 1 ≡ headerNumber s

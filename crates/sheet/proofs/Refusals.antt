@@ -16,10 +16,10 @@ use Rattle.model.specs.Sheet.{headerOf, settingOf, limits, impliedLength, input
 use Rattle.model.specs.Steps.{Setting, Row, Triple}
 use Rattle.model.proofs.Fields.{fields, parties-test}
 use Rattle.model.proofs.SheetDeal.{all-rows}
+use Rattle.model.proofs.Lengths.{bits-most}
 use Rattle.sheet.specs.Framed.{Framed, settingIn}
 use Rattle.sheet.specs.Reading.{headerNumber}
 use Rattle.sheet.specs.declared.frame.Frame.{Frame}
-use Rattle.sheet.proofs.Headers.{bits-most}
 
 -- 5 to 8
 left : Setting → List Row → List (List Row) → List Triple → ℕ

@@ -1,5 +1,5 @@
 // A case and its answer on standard output.
-ghost use Prim.Native.Nat.{_≤_};
+ghost use Prim.Native.Nat.{_*_, _≤_};
 ghost use lib.ListN.{length};
 use crate::words::word;
 use report::lines;
@@ -32,14 +32,16 @@ fn arguments(s: &[u8])
     number(b" v ", word(s, 6));
 }
 
-fn left(n: usize, row: Row) {
+fn left(n: usize, row: Row)
+    requires { ⌜ n ≤ 7 ⌝ }
+{
     let shares = row.shares;
     lines::rows(b" : left", n, 1, &shares[..]);
 }
 
 // The case, the row left, and the rows opened, so many from the start of the part.
 pub fn answer(s: &[u8], n: usize, row: Row, part: &[u32], openings: usize)
-    requires { ⌜ 40 ≤ length (now s) ⌝ }
+    requires { ⌜ (40 ≤ length (now s)) × (n ≤ 7) × (openings * n ≤ length (now part)) ⌝ }
 {
     arguments(s);
     left(n, row);

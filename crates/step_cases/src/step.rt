@@ -1,7 +1,9 @@
 // A case's rows by their places, and its step: MUL and BITLT here.
+ghost use mathlib.Core.Path.{_≡_};
 ghost use Prim.Native.Nat.{_+_, _-_, _*_, _≤_, _<_};
 ghost use lib.ListN.{length};
 ghost use Rattle.model.specs.Fields as Fields;
+ghost use Rattle.step_cases.specs.Words.{maskRows};
 use crate::masked;
 use crate::print::answer;
 use crate::words::times;
@@ -46,7 +48,7 @@ fn run_rows(s: &[u8], field: usize, n: usize, t: usize) -> usize
 
 // A mask is l rows, and a case has one or none.
 fn mask_rows(masks: u32, l: usize) -> usize
-    ensures { λ r. ⌜ r ≤ l ⌝ }
+    ensures { λ r. ⌜ (r ≡ maskRows masks l) × (r ≤ l) ⌝ }
 {
     if masks == 0 { 0 } else { l }
 }

@@ -1,5 +1,14 @@
 // Runs the sheet on standard input, and prints the paper's lines of the run.
+ghost use mathlib.Core.Path.{_≡_};
+ghost use Prim.Native.Nat.{_*_, _≤_, _<_};
+ghost use lib.ListN.{length};
+ghost use Rattle.model.specs.Sheet as Sheet;
+ghost use Rattle.model.specs.Refusals.{isRun};
+ghost use Rattle.figures.specs.Room.{largestSheet, recordLength, revealedLength};
+ghost use Rattle.machine.specs.Answers.{outcomeOf};
+ghost use Rattle.table.specs.Ample.{Ample};
 use machine::run;
+use machine::run::Answer;
 use machine::table::Counts;
 use report::lines;
 use report::number::count;
@@ -9,22 +18,38 @@ use sheet::frame::Frame;
 use sheet::header;
 use sheet::header::Read;
 
-// One byte more is read than the largest sheet has: a longer input has a wrong length as well.
+// One byte more than the largest sheet has.
+const BYTES_READ: usize = 59724;
+
+// "a record of 10,850 numbers (7 shares of at most 1,024 + 16 + 510 openings) and a revealed list of 511, which no run outgrows"
+const RECORD_LENGTH: usize = 10850;
+
+const REVEALED_LENGTH: usize = 511;
+
 fn main() {
-    let mut input = [0u8; 59724];
+    let mut input = [0u8; BYTES_READ];
     let got = io::read_full(0, &mut input);
+    run_read(&input[..], got);
+}
+
+// The bytes that were read. An input that is longer than what is read is longer than the largest sheet too, so that its first bytes have the whole
+// input's answer: `cut` in crates/figures/specs/Room.antt.
+fn run_read(input: &[u8], got: usize)
+    requires { ⌜ (largestSheet < length (now input)) × (got ≤ length (now input)) ⌝ }
+{
     run_sheet(&input[..got]);
 }
 
-// "a record of 10,850 numbers (7 shares of at most 1,024 + 16 + 510 openings) and a revealed list of 511, which no run outgrows"
 fn run_sheet(s: &[u8]) {
-    let mut log = [0u32; 10850];
-    let mut revealed = [0u32; 511];
+    let mut log = [0u32; RECORD_LENGTH];
+    let mut revealed = [0u32; REVEALED_LENGTH];
     run_lent(s, &mut log[..], &mut revealed[..]);
 }
 
-fn run_lent(s: &[u8], log: &mut [u32], revealed: &mut [u32]) {
-    let answer = run::run(s, log, revealed);
+fn run_lent(s: &[u8], log: &mut [u32], revealed: &mut [u32])
+    requires { ⌜ (recordLength ≤ length (now log)) × (revealedLength ≤ length (now revealed)) ⌝ }
+{
+    let answer = run_ample(s, log, revealed);
     let table = answer.table;
     let spent = table.spent;
     if is_run(answer.number) {
@@ -40,13 +65,25 @@ fn run_lent(s: &[u8], log: &mut [u32], revealed: &mut [u32]) {
     );
 }
 
-// Whether the input is not refused: 1 to 11 are the refusals "because of the input".
-fn is_run(answer: u32) -> bool {
-    if answer == 0 { true } else { 11 < answer }
+// The run with buffers that none outgrows.
+fn run_ample(s: &[u8], log: &mut [u32], revealed: &mut [u32]) -> Answer
+    requires { ⌜ (recordLength ≤ length (now log)) × (revealedLength ≤ length (now revealed)) ⌝ }
+    ensures { λ r. ⌜ Ample (now (s .entry)) (now (log .entry)) (now (revealed .entry)) (outcomeOf r (now (log .exit)) (now (revealed .exit))) ⌝ }
+{
+    run::run(s, log, revealed)
+}
+
+// Whether the sheet is run. "When the input is refused only the last line is printed."
+fn is_run(answer: u32) -> bool
+    ensures { λ r. ⌜ r ≡ isRun answer ⌝ }
+{
+    if answer == 0 { true } else { 21 <= answer }
 }
 
 // The lines before the last of a sheet that is run, which has a header.
-fn run_lines(s: &[u8], spent: Counts, log: &[u32], revealed: &[u32]) {
+fn run_lines(s: &[u8], spent: Counts, log: &[u32], revealed: &[u32])
+    requires { ⌜ (spent .openings * Sheet.headerOf (now s) .n ≤ length (now log)) × (spent .revealed ≤ length (now revealed)) ⌝ }
+{
     let Read::Sheet(f) = header::read_header(s) else {
         return;
     };
@@ -63,6 +100,9 @@ fn field_line(f: Frame) {
     line_end();
 }
 
-fn field_number(x: u8) -> u32 {
+// The sheet's first byte, which is the field's number.
+fn field_number(x: u8) -> u32
+    ensures { λ r. ⌜ r ≡ x ⌝ }
+{
     x as u32
 }

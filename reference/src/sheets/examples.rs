@@ -61,7 +61,7 @@ fn test_call(seconds: u32) -> Draft {
 }
 
 /// The blocks of three calls and their total.
-fn three_calls() -> Draft {
+pub(super) fn three_calls() -> Draft {
     let mut commands: Vec<Command> = (0..3).map(|d| Command::Load { d }).collect();
     commands.extend((0..3).map(|a| blocks(a + 3, a)));
     commands.push(Command::Add { d: 6, a: 3, b: 4 });

@@ -14,7 +14,7 @@ use super::draft::Draft;
 use super::held;
 use crate::cases::generator::Generator;
 use crate::dealer::Dealer;
-use crate::run_case::Case;
+use crate::run_case::{Case, LONGEST_RECORD, LONGEST_REVEALED};
 use crate::script::command::Command;
 
 const SEED: u64 = 0x5EED_0004;
@@ -30,8 +30,17 @@ pub fn all() -> Vec<Case> {
     cases.extend(stops::all(&mut generator));
     cases.extend(held::cases());
     cases.extend(drawn::all());
-    cases.push(Case::with_room(bench::largest()));
+    cases.push(largest());
     cases
+}
+
+/// Every cell of the table is set, and both buffers are as long as a case may lend them.
+fn largest() -> Case {
+    Case {
+        sheet: bench::largest(),
+        record: LONGEST_RECORD,
+        revealed: LONGEST_REVEALED,
+    }
 }
 
 /// Three parties in this field; inputs of these secrets, masks of these numbers, and as many
@@ -77,6 +86,19 @@ mod tests {
         assert!((400..=1_000).contains(&cases.len()), "{}", cases.len());
         let length: usize = cases.iter().map(|case| lines(case).len()).sum();
         assert!(length < 800_000, "{length}");
+    }
+
+    #[test]
+    fn the_last_case_sets_every_cell_and_has_the_longest_buffers() {
+        let cases = all();
+        let outcome = cases.last().unwrap().outcome();
+        assert_eq!(
+            (outcome.record.len(), outcome.revealed.len()),
+            (12_000, 600)
+        );
+        assert_eq!(outcome.answer.set, [true; 64]);
+        let cells = outcome.answer.registers.concat();
+        assert_eq!(cells.iter().filter(|&&cell| cell != 0).count(), 448);
     }
 
     #[test]

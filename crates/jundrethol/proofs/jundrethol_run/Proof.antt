@@ -35,7 +35,7 @@ same-length-5 c = search needs
 returns : tie.Need-returns
 returns c =
     let ran = c .before .before .before .before .before .before .before .before .before .before .before .before .before .before .before .before .before .run in
-    handed (ran .result) (search needs) (ran .ensures .0) (c .before .before .before .before .before .before .before .before .before .before .put-cells .ensures) (c .before .before .before .before .before .before .put-marks .ensures) (c .before .before .put-counts .ensures)
+    handed (ran .result) (search needs) (ran .ensures) (c .before .before .before .before .before .before .before .before .before .before .put-cells .ensures) (c .before .before .before .before .before .before .put-marks .ensures) (c .before .before .put-counts .ensures)
 
 pub jundrethol-run-spec : {M : Type 1} → statement M
 jundrethol-run-spec =

@@ -1,4 +1,4 @@
--- `run_lines` is safe: a sheet with a header has a first byte.
+-- `run_lines` is safe: a sheet with a header has a first byte, and its n is the one that the record's rows are counted with.
 -- Assumes nothing.
 use borrow.Author.Needs.{needs}
 use native.Mathlib.Omega.{arith}
@@ -30,7 +30,10 @@ field-line-requires : tie.Need-field-line-requires
 field-line-requires c κs = search needs
 
 opened-requires : tie.Need-opened-requires
-opened-requires c κs = search needs
+opened-requires c κs =
+    let found = c .before .before .before .before in
+    let F = found .before .before .read-header .ensures .1 _ (found .f .given .1) in
+    rw (F .n-is) (found .before .before .before .before .before .before .pre .0)
 
 revealed-requires : tie.Need-revealed-requires
 revealed-requires c κs = search needs

@@ -44,7 +44,20 @@ pub fn linear() -> Vec<Held> {
         run("field 1, n = 5, t = 2", (1, (5, 2)), [250, 9], 250),
         run("field 2, n = 6, t = 2", (2, (6, 2)), [65_520, 700], 65_520),
         run("field 3, n = 7, t = 3", (3, (7, 3)), [5, last - 6], last),
+        in_bytes(),
     ]
+}
+
+/// LOAD 0, END and one row, whose bytes stand behind the script as they are.
+fn in_bytes() -> Held {
+    Held {
+        says: "field 3, a row in bytes: 4 3 2 1 is 16909060, the lowest byte first",
+        header: vec![3, 3, 1, 1, 0, 0, 0, 0, 0, 3, 0],
+        script: [&[1, 0, 0], [4, 3, 2, 1].repeat(3).as_slice()].concat(),
+        shares: vec![],
+        record: 1,
+        revealed: 1,
+    }
 }
 
 /// Commands that take a mask in field 1.

@@ -19,10 +19,10 @@ pub fn all() -> Vec<Held> {
 
 /// Three parties, threshold 1, no row.
 fn held(says: &'static str, field: u8, script: &[u8]) -> Held {
-    let length = script.len() as u8;
+    let [low, high] = (script.len() as u16).to_le_bytes();
     Held {
         says,
-        header: vec![field, 3, 1, 0, 0, 0, 0, 0, 0, length, 0],
+        header: vec![field, 3, 1, 0, 0, 0, 0, 0, 0, low, high],
         script: script.to_vec(),
         shares: vec![],
         record: 3,
@@ -65,6 +65,11 @@ fn ends() -> Vec<Held> {
         held("10: END twice", 0, &[0, 0]),
         held("10: what follows END is not read", 0, &[1, 0, 0, 14]),
         held("10: nor is it tried for 11", 0, &[1, 0, 0, 1, 64, 0]),
+        held(
+            "22: 100 times LOAD 1, and END: a longer script is read whole",
+            0,
+            &[[1; 200].as_slice(), &[0]].concat(),
+        ),
     ]
 }
 

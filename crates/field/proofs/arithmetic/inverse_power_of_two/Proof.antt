@@ -5,6 +5,7 @@ use Prim.Native.Nat.{_-_, _≤_, _<_}
 use native.Mathlib.Numerals.{add-one}
 use native.Mathlib.Omega.{arith}
 use borrow.Author.Needs.{needs}
+use Rattle.algebra.proofs.Ring.{mul-turned}
 use Rattle.model.specs.Fields.{inversePowerOf2}
 use Rattle.field.proofs.arithmetic.inverse_power_of_two.Statement.{statement}
 use Rattle.field.proofs.arithmetic.inverse_power_of_two.Tie as tie
@@ -33,7 +34,7 @@ loop-less c = search needs
 
 loop-again : tie.Need-loop-again Inv-loop μ-loop
 unfolding inversePowerOf2
-loop-again c = (omega arith, (rw (add-one, ← c .before .before .loop .inv .1 .0) (c .mul .ensures .0), omega arith))
+loop-again c = (omega arith, (rw (add-one, ← c .before .before .loop .inv .1 .0) (search mul-turned), omega arith))
 
 returns : tie.Need-returns Inv-loop μ-loop
 returns c = (c .before .loop .inv .1 .0 ∙ ap (inversePowerOf2 _) (omega arith), omega arith)

@@ -1,4 +1,4 @@
--- `lines::revealed` is safe and ends.
+-- `lines::revealed` is safe and ends: each turn prints a value of the list.
 -- Assumes nothing.
 use Prim.Native.Nat.{_-_, _≤_}
 use borrow.Author.Needs.{needs}
@@ -13,9 +13,6 @@ abbrev μ-loop : tie.MeasureT-loop
 
 loop-holds : tie.Need-loop-holds Inv-loop μ-loop
 loop-holds c = search needs
-
-returns : tie.Need-returns Inv-loop μ-loop
-returns c = search needs
 
 mul-revealed-value : tie.Need-mul-revealed-value Inv-loop μ-loop
 mul-revealed-value c = search needs
@@ -35,8 +32,8 @@ loop-less c = search needs
 loop-again : tie.Need-loop-again Inv-loop μ-loop
 loop-again c = search needs
 
-returns-2 : tie.Need-returns-2 Inv-loop μ-loop
-returns-2 c = search needs
+returns : tie.Need-returns Inv-loop μ-loop
+returns c = search needs
 
 pub revealed-spec : {M : Type 1} → statement M
 revealed-spec =
@@ -45,11 +42,10 @@ revealed-spec =
     Inv-loop
     μ-loop
     loop-holds
-    returns
     mul-revealed-value
     shared-slice-read-revealed-value
     revealed-value-requires
     add-i
     loop-less
     loop-again
-    returns-2)
+    returns)

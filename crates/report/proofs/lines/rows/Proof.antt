@@ -1,28 +1,34 @@
--- `lines::rows` is safe and ends: each turn counts a row.
+-- `lines::rows` is safe and ends: each turn counts a row, and the rows are in the list.
 -- Assumes nothing.
-use Prim.Native.Nat.{_-_, _≤_}
+use mathlib.Core.Path.{_≡_}
+use Prim.Native.Nat.{ℕ, suc, _+_, _-_, _*_, _≤_, _<_}
 use borrow.Author.Needs.{needs}
+use denote.Ref.{now}
 use lib.ListN.{length}
+use native.Mathlib.Nat.{mul-le-mul-right}
+use native.Mathlib.Omega.{arith}
 use Rattle.report.proofs.lines.rows.Statement.{statement}
 use Rattle.report.proofs.lines.rows.Tie as tie
 
 abbrev Inv-loop : tie.InvT-loop
-Inv-loop text n many xs at₀ i₀ at i = (at ≤ length xs) × (i ≤ many)
+Inv-loop text n many xs at₀ i₀ at i = (at ≡ i * n) × (i ≤ many) × (at ≤ length xs)
 
 abbrev μ-loop : tie.MeasureT-loop
 μ-loop text n many xs at₀ i₀ at i = many - i
 
+-- the next row ends in the list
+in-list : (n many at i l : ℕ) → at ≡ i * n → i < many → many * n ≤ l → at + n ≤ l
+in-list n many at i l e h k = let q : suc i * n ≤ many * n = mul-le-mul-right n h in omega arith
+
+row-in : (c : tie.In-loop Inv-loop μ-loop)
+    → let a = c .before .before .before .before .args in c .before .loop .at + a .n ≤ length (now (a .xs))
+row-in c = in-list _ _ _ _ _ (c .before .loop .inv .0) (omega arith) (c .before .before .before .before .pre)
+
 loop-holds : tie.Need-loop-holds Inv-loop μ-loop
 loop-holds c = search needs
 
-sub-if1 : tie.Need-sub-if1 Inv-loop μ-loop
-sub-if1 c = search needs
-
-returns : tie.Need-returns Inv-loop μ-loop
-returns c = search needs
-
 add-list-line : tie.Need-add-list-line Inv-loop μ-loop
-add-list-line c = search needs
+add-list-line c = omega (arith, row-in c)
 
 mul-list-line : tie.Need-mul-list-line Inv-loop μ-loop
 mul-list-line c = search needs
@@ -34,13 +40,13 @@ part-list-line-start : tie.Need-part-list-line-start Inv-loop μ-loop
 part-list-line-start c = search needs
 
 part-list-line-end : tie.Need-part-list-line-end Inv-loop μ-loop
-part-list-line-end c = search needs
+part-list-line-end c = omega (arith, row-in c)
 
 list-line-requires : tie.Need-list-line-requires Inv-loop μ-loop
 list-line-requires c κs = search needs
 
 add-at : tie.Need-add-at Inv-loop μ-loop
-add-at c = search needs
+add-at c = omega (arith, row-in (c .before .before))
 
 add-i : tie.Need-add-i Inv-loop μ-loop
 add-i c = search needs
@@ -49,10 +55,10 @@ loop-less : tie.Need-loop-less Inv-loop μ-loop
 loop-less c = search needs
 
 loop-again : tie.Need-loop-again Inv-loop μ-loop
-loop-again c = search needs
+loop-again c = omega (arith, row-in (c .before .before))
 
-returns-2 : tie.Need-returns-2 Inv-loop μ-loop
-returns-2 c = search needs
+returns : tie.Need-returns Inv-loop μ-loop
+returns c = search needs
 
 pub rows-spec : {M : Type 1} → statement M
 rows-spec =
@@ -61,8 +67,6 @@ rows-spec =
     Inv-loop
     μ-loop
     loop-holds
-    sub-if1
-    returns
     add-list-line
     mul-list-line
     sub-list-line
@@ -73,4 +77,4 @@ rows-spec =
     add-i
     loop-less
     loop-again
-    returns-2)
+    returns)

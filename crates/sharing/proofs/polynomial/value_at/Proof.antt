@@ -1,6 +1,7 @@
 -- `polynomial::value_at` meets its contract, by Horner's rule.
 -- Assumes nothing.
 use Prim.Native.Nat.{_≤_}
+use Rattle.algebra.proofs.Ring.{mul-turned}
 use Rattle.model.specs.Sharing.{eval}
 use Rattle.sharing.proofs.Horner.{horner-start, horner, horner-end}
 use borrow.Author.Needs.{needs}
@@ -38,7 +39,7 @@ loop-less : tie.Need-loop-less Inv-loop μ-loop
 loop-less c = search needs
 
 loop-again : tie.Need-loop-again Inv-loop μ-loop
-loop-again c = (omega arith, search horner)
+loop-again c = (omega arith, search (horner, mul-turned))
 
 mul-requires-2 : tie.Need-mul-requires-2 Inv-loop μ-loop
 mul-requires-2 c κs = search needs
@@ -47,7 +48,7 @@ add-requires-2 : tie.Need-add-requires-2 Inv-loop μ-loop
 add-requires-2 c κs = search needs
 
 returns : tie.Need-returns Inv-loop μ-loop
-returns c = let l = c .before .before .before .loop in (horner-end _ _ (l .i) _ _ (omega arith) (l .inv .1) (c .before .mul2 .ensures .0) (c .add2 .ensures .0), omega arith)
+returns c = let l = c .before .before .before .loop in (horner-end _ _ (l .i) _ _ (omega arith) (l .inv .1) (search mul-turned) (c .add2 .ensures .0), omega arith)
 
 pub value-at-spec : {M : Type 1} → statement M
 value-at-spec =

@@ -1,6 +1,7 @@
 -- `rows::scale_row` meets its contract: column by column.
 -- Assumes nothing.
 use Prim.Native.Nat.{_-_}
+use Rattle.algebra.proofs.Ring.{mul-turned}
 use Rattle.algebra.proofs.Rows.{Filling, filling-start, filling-more, filling-end}
 use Rattle.algebra.specs.Ring.{mul}
 use borrow.Author.Needs.{needs}
@@ -40,7 +41,12 @@ loop-less : tie.Need-loop-less Inv-loop μ-loop
 loop-less c = search needs
 
 loop-again : tie.Need-loop-again Inv-loop μ-loop
-loop-again c = filling-more (c .before .before .before .loop .inv) (omega arith) (omega arith) (c .mul .ensures .0)
+loop-again c =
+    filling-more
+    (c .before .before .before .loop .inv)
+    (omega arith)
+    (omega arith)
+    (search mul-turned)
 
 returns : tie.Need-returns Inv-loop μ-loop
 returns c = filling-end (c .before .loop .inv) (omega arith)

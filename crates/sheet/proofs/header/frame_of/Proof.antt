@@ -1,7 +1,8 @@
 -- `header::frame_of` meets its contract: the places fit, since the counts are within their limits.
 -- Assumes nothing.
 use Rattle.sheet.specs.Reading.{told}
-use Rattle.sheet.proofs.Headers.{Fitting, fitting, frame-is, end-is, length-most}
+use Rattle.model.proofs.Lengths.{Fitting, fitting, length-most}
+use Rattle.sheet.proofs.Headers.{frame-is, end-is}
 use native.Mathlib.Omega.{arith}
 use borrow.Author.Needs.{needs}
 use Rattle.sheet.proofs.header.frame_of.Statement.{statement}
@@ -62,7 +63,7 @@ returns c =
     let ep = c .before .before .modulus .ensures .0 in
     let el = c .before .before .before .before .before .before .before .bits .ensures in
     let ek = c .before .largest-k .ensures in
-    (frame-is h (a .pre .0) (a .pre .1) (a .pre .2) ep el ek, a .pre .1 .most, end-is h (a .pre .0) (a .pre .1) (a .pre .2) ep el ek, length-most h (a .pre .0) (a .pre .1) (a .pre .2) ep el ek)
+    (frame-is h (a .pre .0) (a .pre .1) (a .pre .2) ep el ek, a .pre .1 .most, end-is h (a .pre .0) (a .pre .1) (a .pre .2) ep el ek, length-most h (a .pre .0) (a .pre .1 .most) (a .pre .2))
 
 pub frame-of-spec : {M : Type 1} → statement M
 frame-of-spec =

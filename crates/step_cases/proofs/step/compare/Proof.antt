@@ -60,7 +60,7 @@ compare-bits-requires c κs = (
   c .before .before .before .before .before .before .before .before .before .before .pre .2,
   c .before .before .before .before .before .before .before .before .before .before .pre .3,
   omega (arith, c .before .before .before .before .before .before .if1),
-  c .before .before .before .before .before .before .before .up-to .ensures,
+  c .before .before .before .before .before .before .before .up-to .ensures .1,
   omega (arith, c .before .before .before .before .before .times .ensures, c .before .before .before .before .if2, c .before .before .before .before .before .before .before .before .before .before .pre .1),
   omega (arith, c .before .before .before .times2 .ensures, c .before .before .if3, c .before .before .before .before .before .before .before .before .before .before .pre .4),
   omega (arith, c .before .times3 .ensures, c .if4),

@@ -1,6 +1,7 @@
 -- `words::width` meets its contract: 2^k is less than the modulus for the field's largest k, and so for every smaller one.
 -- Assumes nothing.
-use Prim.Native.Nat.{ℕ, _^_, _≤_, _<_}
+use mathlib.Core.Path.{_≡_}
+use Prim.Native.Nat.{ℕ, _^_, _≤_, _<_, min}
 use borrow.Author.Needs.{needs}
 use lib.Pow.{pow-mono}
 use native.Mathlib.Omega.{arith}
@@ -9,9 +10,10 @@ use Rattle.model.proofs.Fields.{fields}
 use Rattle.step_cases.proofs.words.width.Statement.{statement}
 use Rattle.step_cases.proofs.words.width.Tie as tie
 
-within : (f k : ℕ) → f < 4 → k ≤ largestK f → (k ≤ 30) × (2 ^ k < modulus f)
-within f k h b =
-    (omega (arith, fields f h .k-most), omega (arith, pow-mono {i = k} {j = largestK f} b, fields f h .range-fits))
+within : (f w k : ℕ) → f < 4 → k ≡ min w (largestK f) → (k ≡ min w (largestK f)) × (k ≤ 30) × (2 ^ k < modulus f)
+within f w k h e =
+    let b : k ≤ largestK f = omega arith in
+    (e, omega (arith, fields f h .k-most), omega (arith, pow-mono {i = k} {j = largestK f} b, fields f h .range-fits))
 
 word-requires : tie.Need-word-requires
 word-requires c κs = search needs
@@ -20,10 +22,12 @@ largest-k-requires : tie.Need-largest-k-requires
 largest-k-requires c κs = search needs
 
 returns : tie.Need-returns
-returns c = within _ _ (c .before .before .before .before .pre .1) (omega (arith, c .before .largest-k .ensures))
+returns c =
+    within _ _ _ (c .before .before .before .before .pre .1) (omega (arith, c .before .before .word .ensures, c .before .largest-k .ensures))
 
 returns-2 : tie.Need-returns-2
-returns-2 c = within _ _ (c .before .before .before .before .pre .1) (omega (arith, c .before .largest-k .ensures))
+returns-2 c =
+    within _ _ _ (c .before .before .before .before .pre .1) (omega (arith, c .before .before .word .ensures, c .before .largest-k .ensures))
 
 pub width-spec : {M : Type 1} → statement M
 width-spec = tie.close (tie.spec word-requires largest-k-requires returns returns-2)

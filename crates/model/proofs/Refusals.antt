@@ -1,0 +1,232 @@
+-- Which numbers refuse an input: by the tests of the sheet, of the script's places, and of the commands.
+-- Assumes nothing.
+use mathlib.Core.Path.{_≡_, refl, sym, ap, subst, _∙_}
+use mathlib.Core.Logic.{_↔_, _≢_, _⊎_, inl, inr, ⊎-elim}
+use mathlib.Core.Bool.{Bool, true, false, cond, _||_}
+use mathlib.Core.List.{List, [], _∷_}
+use Prim.Native.Nat.{ℕ, zero, suc, _+_, _*_, _≤_, _<_}
+use native.Mathlib.Omega.{arith}
+use borrow.Author.Tests.{ltb-false}
+use lib.Dec.{T, ltb, leb, eqb, lit≤, leb→le, le→leb, eqb→eq}
+use lib.ListN.{length, getD}
+use Rattle.algebra.specs.Lists.{over}
+use Rattle.algebra.proofs.Tests.{choice}
+use Rattle.model.specs.Steps.{Setting, Row}
+use Rattle.model.specs.Script.{Line, Script, accepted, refused, commandAt, sizeAt, inRanges, numberAt, withLine, scriptStep, scriptFrom, scriptOf}
+use Rattle.model.specs.Costs.{Cost, cost}
+use Rattle.model.specs.Sheet.{headerOf, sheetNumber}
+use Rattle.model.specs.Run.{Spent, State, Supply, Stop, allSet, check, finish, orElse, runLines, nothingSpent, start, outcome, refusedInput, written, runScript, sheetScript, stopOf, run}
+use Rattle.model.specs.Exactness.{Accepted}
+use Rattle.model.specs.Refusals.{isRun, From, Numbered, Numbers, Untouched, NothingRun}
+
+-- 1 to 8, or 0
+low : (b : Bool) (x y : ℕ) → x ≤ 8 → y ≤ 8 → cond b x y ≤ 8
+low true x y h k = h
+low false x y h k = k
+
+sheet-low : (s : List ℕ) → sheetNumber s ≤ 8
+unfolding sheetNumber
+sheet-low s = search (low, lit≤, tt) depth 10
+
+-- What stands at a place of a script: 9 to 11, or 0 and then a command byte.
+module _ (p K : ℕ) (s : List ℕ) where
+  abbrev pub Told : ℕ → ℕ → Type 0
+  Told i number = (number ≢ 0 → From 9 11 number) × (number ≡ 0 → getD s i 0 < 14)
+
+  pub told : (i : ℕ) → Told i (numberAt p K s i)
+  unfolding numberAt
+  told i =
+      choice (Told i) (leb (length s) i) (λ _. omega arith)
+      (λ _. choice (Told i) (ltb 13 (getD s i 0)) (λ _. omega arith)
+      (λ f. choice (Told i) (ltb (length s) (i + sizeAt s i)) (λ _. omega arith)
+      (λ _. choice (Told i) (inRanges p K (commandAt s i)) (λ _. omega (arith, ltb-false 13 (getD s i 0) f)) (λ _. omega arith))))
+
+  -- so a script is refused with 9 to 11
+  abbrev Late : Script → Type 0
+  Late (accepted xs end) = Unit {0}
+  Late (refused number place) = From 9 11 number
+
+  with-line : (x : Line) (rest : Script) → Late rest → Late (withLine x rest)
+  with-line x (accepted xs end) k = tt
+  with-line x (refused number place) k = k
+
+  step : (number i : ℕ) (rest : Script) → Told i number → Late rest → Late (scriptStep number s i rest)
+  step (suc number) i rest t k = t .0 (omega arith)
+  step zero i rest t k =
+      choice Late (eqb (getD s i 0) 0) (λ _. choice Late (eqb (i + 1) (length s)) (λ _. tt) (λ _. omega arith)) (λ _. with-line _ rest k)
+
+  late : (most i : ℕ) → Late (scriptFrom most p K s i)
+  unfolding scriptFrom
+  late zero i = omega arith
+  late (suc most) i = step (numberAt p K s i) i _ (told i) (late most (i + sizeAt s i))
+
+  script-late : {number place : ℕ} → scriptOf p K s ≡ refused number place → From 9 11 number
+  unfolding scriptOf
+  script-late e = subst Late e (late (suc (length s)) 0)
+
+-- The lines of a script stop with 0, or with 21 to 26.
+abbrev OfState : ℕ → Type 0
+OfState number = (number ≢ 0) → From 21 26 number
+
+checked : (u : Supply) (c : Cost) (s : Spent) → OfState (check u c s)
+unfolding check
+checked u c s =
+    choice OfState (allSet (s .marks) (c .reads))
+    (λ _. choice OfState (leb (s .inputs + c .inputs) (u .inputs))
+    (λ _. choice OfState (leb (s .masks + c .masks) (u .masks))
+    (λ _. choice OfState (leb (s .triples + c .triples) (u .triples))
+    (λ _. choice OfState (leb ((s .openings + c .openings) * u .parties) (u .log))
+    (λ _. choice OfState (leb (s .revealed + c .revealed) (u .shown)) (λ _. omega arith) (λ _. omega arith))
+    (λ _. omega arith)) (λ _. omega arith)) (λ _. omega arith)) (λ _. omega arith)) (λ _. omega arith)
+
+-- what holds of the number of a stop: of a refusal's, or else of the rest's
+pub or-else : (P : ℕ → Type 0) (number place : ℕ) (s : State) (x : Stop) → P number → (number ≡ 0 → P (x .number)) → P (orElse number place s x .number)
+or-else P zero place s x h k = k refl
+or-else P (suc number) place s x h k = h
+
+lines : (S : Setting) (u : Supply) (input : List Row) (end : ℕ) (xs : List Line) (s : State) → OfState (runLines S u input end xs s .number)
+unfolding runLines
+lines S u input end [] s = λ k. absurd (k refl)
+lines S u input end (x ∷ xs) s =
+    or-else OfState (check u (cost (S .l) (x .command)) (s .spent)) (x .place) s _ (checked u _ _)
+    (λ _. lines S u input end xs (finish S input (x .command) s))
+
+-- How a sheet's stop comes about.
+data Way (s : List ℕ) (x : Stop) : Type 0 where
+  by-sheet : sheetNumber s ≢ 0 → x ≡ refusedInput (sheetNumber s) 0 → Way s x
+  by-script : {number place : ℕ} → sheetNumber s ≡ 0 → sheetScript s ≡ refused number place → x ≡ refusedInput number place → Way s x
+  by-run : Accepted s → OfState (x .number) → Way s x
+
+way : (s : List ℕ) (log shown : ℕ) → Way s (stopOf s log shown)
+unfolding stopOf runScript
+way s log shown = go (sheetNumber s) refl
+  where
+    script : sheetNumber s ≡ 0 → (x : Script) → sheetScript s ≡ x → Way s (runScript (headerOf s) s log shown x)
+    script e (refused number place) q = by-script e q refl
+    script e (accepted xs end) q = by-run (record { lines = xs; end = end; number = e; script = q }) (lines _ _ _ end xs _)
+
+    go : (n : ℕ) → sheetNumber s ≡ n → Way s (orElse n 0 (start (record { masks = []; triples = [] })) (runScript (headerOf s) s log shown (sheetScript s)))
+    go zero e = script e (sheetScript s) refl
+    go (suc n) e = by-sheet (λ z. omega arith) (rw e)
+
+-- a script is not both refused and accepted
+not-late : {s : List ℕ} {number place : ℕ} → sheetScript s ≡ refused number place → Accepted s → ⊥
+not-late e a = apart (sym e ∙ a .script)
+  where
+    told-apart : Script → Type 0
+    told-apart (accepted xs end) = ⊥
+    told-apart (refused number place) = Unit {0}
+
+    apart : {number place : ℕ} {xs : List Line} {end : ℕ} → refused number place ≡ accepted xs end → ⊥
+    apart q = subst told-apart q tt
+
+-- and it has one number and one place
+same-refusal : {c i number place : ℕ} → refused c i ≡ refused number place → (c ≡ number) × (i ≡ place)
+same-refusal {c} {i} e = (ap numberIn e, ap placeIn e)
+  where
+    numberIn : Script → ℕ
+    numberIn (accepted xs end) = c
+    numberIn (refused number place) = number
+
+    placeIn : Script → ℕ
+    placeIn (accepted xs end) = i
+    placeIn (refused number place) = place
+
+-- `isRun` tells the numbers of the one list from those of the other
+or-either : (a b : Bool) → T (a || b) → T a ⊎ T b
+or-either true b t = inl tt
+or-either false b t = inr t
+
+or-right : (a b : Bool) → T b → T (a || b)
+or-right true b t = tt
+or-right false b t = t
+
+refuses : (number : ℕ) → From 1 20 number → T (isRun number) → ⊥
+unfolding isRun
+refuses number h t =
+    ⊎-elim (λ a. omega (arith, eqb→eq number 0 a)) (λ a. omega (arith, leb→le 21 number a)) (or-either (eqb number 0) (leb 21 number) t)
+
+runs : (number : ℕ) → OfState number → T (isRun number)
+unfolding isRun
+runs zero h = tt
+runs (suc number) h = or-right (eqb (suc number) 0) (leb 21 (suc number)) (le→leb 21 (suc number) (h (λ e. omega arith) .0))
+
+zero-or : (number : ℕ) → OfState number → (number ≡ 0) ⊎ From 21 26 number
+zero-or zero h = inl refl
+zero-or (suc number) h = inr (h (λ e. omega arith))
+
+-- of a sheet that is not accepted, and of one that is
+of-input : {s : List ℕ} {number place : ℕ} → (Accepted s → ⊥) → From 1 11 number → From 1 8 number ↔ (sheetNumber s ≢ 0)
+    → (From 1 8 number → (number ≡ sheetNumber s) × (place ≡ 0))
+    → ((c i : ℕ) → sheetNumber s ≡ 0 → sheetScript s ≡ refused c i → (number ≡ c) × (place ≡ i) × From 9 11 c) → Numbered s number place
+of-input fails h first at script =
+    record {
+      input = (λ _. fails, λ _. h);
+      state = (λ z. absurd (⊎-elim (λ e. omega arith) (λ e. omega arith) z), λ a. absurd (fails a));
+      is-run = (λ t. absurd (refuses _ (omega arith) t), λ a. absurd (fails a));
+      sheet-first = first;
+      sheet-place = at;
+      script = script;
+    }
+
+of-state : {s : List ℕ} {number place : ℕ} → Accepted s → OfState number → Numbered s number place
+of-state {number = number} a h =
+    record {
+      input = (λ z. absurd (both z (zero-or number h)), λ fails. absurd (fails a));
+      state = (λ _. a, λ _. zero-or number h);
+      is-run = (λ _. a, λ _. runs number h);
+      sheet-first = (λ z. absurd (both (omega arith) (zero-or number h)), λ fails. absurd (fails (a .number)));
+      sheet-place = λ z. absurd (both (omega arith) (zero-or number h));
+      script = λ c i z q. absurd (not-late q a);
+    }
+  where
+    both : From 1 11 number → (number ≡ 0) ⊎ From 21 26 number → ⊥
+    both z = ⊎-elim (λ e. omega arith) (λ e. omega arith)
+
+numbered : (s : List ℕ) (x : Stop) → Way s x → Numbered s (x .number) (x .place)
+numbered s x (by-sheet fails e) =
+    let n : x .number ≡ sheetNumber s = ap (λ (x : Stop). x .number) e in
+    let h : From 1 8 (sheetNumber s) = omega (arith, sheet-low s) in
+    of-input (λ a. fails (a .number)) (omega arith) (λ _. fails, λ _. rw n h) (λ _. (n, ap (λ (x : Stop). x .place) e))
+    (λ c i z q. absurd (fails z))
+numbered s x (by-script z q e) =
+    let n = ap (λ (x : Stop). x .number) e in
+    let h = script-late _ _ _ q in
+    of-input (not-late q) (omega arith) (λ l. absurd (omega arith), λ fails. absurd (fails z)) (λ l. absurd (omega arith))
+    (λ c i z′ q′.
+    let r = same-refusal (sym q ∙ q′) in
+    (n ∙ r .0, ap (λ (x : Stop). x .place) e ∙ r .1, script-late _ _ _ q′))
+numbered s x (by-run a h) = of-state a h
+
+pub numbers : Numbers
+unfolding run outcome
+numbers =
+    record {
+      of-stop = λ s log shown. numbered s _ (way s log shown);
+      of-run = λ s log revealed. numbered s _ (way s (length log) (length revealed));
+    }
+
+-- what a refused input leaves
+kept : (n : ℕ) (log revealed : List ℕ) (number place : ℕ) → Untouched log revealed (outcome n log revealed (refusedInput number place))
+unfolding outcome written start nothingSpent over
+kept n log revealed number place =
+    record {
+      log-kept = refl;
+      revealed-kept = refl;
+      unset = refl;
+      cells = refl;
+      inputs = refl;
+      masks = refl;
+      triples = refl;
+      openings = refl;
+      values = refl;
+    }
+
+untouched : (n : ℕ) (log revealed s : List ℕ) (x : Stop) → (Accepted s → ⊥) → Way s x → Untouched log revealed (outcome n log revealed x)
+untouched n log revealed s x fails (by-sheet k e) = rw e (kept n log revealed _ _)
+untouched n log revealed s x fails (by-script z q e) = rw e (kept n log revealed _ _)
+untouched n log revealed s x fails (by-run a h) = absurd (fails a)
+
+pub nothing-run : NothingRun
+unfolding run
+nothing-run s log revealed fails = untouched (headerOf s .n) log revealed s _ fails (way s (length log) (length revealed))

@@ -1,0 +1,23 @@
+-- Demand 3 is about runs that there are: each well-formed deal makes an accepted sheet, which reads as the parts that it is made of; and the deal of
+-- an accepted sheet is one of these deals, its run on that deal being its own run.
+-- Assumes nothing.
+use mathlib.Core.Path.{_≡_}
+use mathlib.Core.List.{List}
+use Prim.Native.Nat.{ℕ}
+use Rattle.algebra.specs.Lists.{Below}
+use Rattle.model.specs.Deal.{Deal}
+use Rattle.model.specs.Sheet.{headerOf, scriptIn, inputIn, dealIn}
+use Rattle.model.specs.Making.{Says}
+use Rattle.model.specs.Exactness.{Accepted}
+use Rattle.model.specs.Secrecy.{WellFormed, madeOn}
+
+-- the sheet that `runOn` runs for the sheet s and the deal d
+pub record RealRun (s : List ℕ) (d : Deal) : Type 0 where
+  pub is-accepted : Accepted (madeOn s d)
+  pub says : Says (madeOn s d) (headerOf s) (scriptIn (headerOf s) s) (inputIn (headerOf s) s) d
+  pub bytes : Below 256 s → Below 256 (madeOn s d)
+
+pub record RealRuns : Type 0 where
+  pub made : (s : List ℕ) → Accepted s → (d : Deal) → WellFormed (headerOf s) d → RealRun s d
+  pub own-deal : (s : List ℕ) → Accepted s → WellFormed (headerOf s) (dealIn (headerOf s) s)
+  pub own-run : (s : List ℕ) → Accepted s → Below 256 s → madeOn s (dealIn (headerOf s) s) ≡ s

@@ -1,0 +1,59 @@
+-- The paper, "Refused because of the input" and "Refused because of the state": exactly when an answer has a number of the one list or of the
+-- other, and what a refused input leaves. Which number it is, and its place, is `stopOf` in Run.antt.
+-- Assumes nothing.
+use mathlib.Core.Path.{_≡_}
+use mathlib.Core.Logic.{_↔_, _≢_, _⊎_}
+use mathlib.Core.Bool.{Bool, false, _||_}
+use mathlib.Core.List.{List}
+use Prim.Native.Nat.{ℕ, _≤_}
+use lib.Dec.{T, eqb, leb}
+use lib.ListN.{replicate}
+use Rattle.model.specs.Deal.{noRow}
+use Rattle.model.specs.Script.{refused}
+use Rattle.model.specs.Sheet.{sheetNumber}
+use Rattle.model.specs.Run.{Outcome, sheetScript, stopOf, run}
+use Rattle.model.specs.Exactness.{Accepted}
+
+-- Whether a number is one of a sheet that is run: 0, or one of "Refused because of the state", which start at 21. All numbers below are kept
+-- for refusals because of the input, also those that the paper's list does not use.
+unfoldable pub isRun : ℕ → Bool
+isRun number = eqb number 0 || leb 21 number
+
+-- the numbers from one to another, both among them
+abbrev pub From : ℕ → ℕ → ℕ → Type 0
+From low high number = (low ≤ number) × (number ≤ high)
+
+-- A sheet's number and place, against whether it is accepted.
+pub record Numbered (sheet : List ℕ) (number place : ℕ) : Type 0 where
+  -- the list of "Refused because of the input", 1 to 11: "A sheet is accepted when it is not refused because of the input."
+  pub input : From 1 11 number ↔ (Accepted sheet → ⊥)
+  -- the list of "Refused because of the state", 21 to 26; "Otherwise the answer is 0"
+  pub state : ((number ≡ 0) ⊎ From 21 26 number) ↔ Accepted sheet
+  pub is-run : T (isRun number) ↔ Accepted sheet
+  -- "each over the whole sheet before the next; 9 to 11 are tried command by command": what stands before the script
+  pub sheet-first : From 1 8 number ↔ (sheetNumber sheet ≢ 0)
+  -- "The place is 0 for 1 to 8"
+  pub sheet-place : From 1 8 number → (number ≡ sheetNumber sheet) × (place ≡ 0)
+  -- and then the script: "for 9 to 11 the command's offset in the script, the script length if END is missing, or the offset just after END"
+  pub script : (c i : ℕ) → sheetNumber sheet ≡ 0 → sheetScript sheet ≡ refused c i → (number ≡ c) × (place ≡ i) × From 9 11 c
+
+-- for every sheet, with buffers of any lengths: how its run stops, and its outcome
+pub record Numbers : Type 0 where
+  pub of-stop : (sheet : List ℕ) (log shown : ℕ) → let x = stopOf sheet log shown in Numbered sheet (x .number) (x .place)
+  pub of-run : (sheet log revealed : List ℕ) → let x = run sheet log revealed in Numbered sheet (x .number) (x .place)
+
+-- "Nothing is run. Both output buffers keep their contents, all registers are unset, all counts 0." "the cells of an unset register are 0"
+pub record Untouched (log revealed : List ℕ) (x : Outcome) : Type 0 where
+  pub log-kept : x .log ≡ log
+  pub revealed-kept : x .revealed ≡ revealed
+  pub unset : x .marks ≡ replicate 64 false
+  pub cells : x .registers ≡ replicate 64 noRow
+  pub inputs : x .inputs ≡ 0
+  pub masks : x .masks ≡ 0
+  pub triples : x .triples ≡ 0
+  pub openings : x .openings ≡ 0
+  pub values : x .values ≡ 0
+
+-- for every sheet that is not accepted, and all buffers
+abbrev pub NothingRun : Type 0
+NothingRun = (sheet log revealed : List ℕ) → (Accepted sheet → ⊥) → Untouched log revealed (run sheet log revealed)

@@ -1,0 +1,45 @@
+-- `run_ample` meets its contract: no run outgrows the buffers.
+-- Assumes nothing.
+use mathlib.Core.Path.{_≡_, sym, ap, _∙_}
+use mathlib.Core.List.{List}
+use Prim.Native.Nat.{ℕ, _≤_}
+use borrow.Author.Needs.{needs}
+use lib.ListN.{length}
+use Rattle.model.specs.Run.{Outcome, run}
+use Rattle.figures.specs.Room.{recordLength, revealedLength}
+use Rattle.figures.proofs.Room.{no-run-outgrows, all-held}
+use Rattle.table.specs.Ample.{Ample}
+use Rattle.table.proofs.run_ample.Statement.{statement}
+use Rattle.table.proofs.run_ample.Tie as tie
+
+ample : (s log revealed : List ℕ) {x : Outcome} → recordLength ≤ length log → revealedLength ≤ length revealed → x ≡ run s log revealed
+    → Ample s log revealed x
+ample s log revealed h k e =
+    let n = ap (λ (x : Outcome). x .number) e in
+    let o = no-run-outgrows s log revealed h k in
+    let held = all-held s log revealed in
+    record {
+      is = e;
+      not-25 = λ q. o .0 (sym n ∙ q);
+      not-26 = λ q. o .1 (sym n ∙ q);
+      rows = rw (ap (λ (x : Outcome). x .openings) e) (held .0);
+      values = rw (ap (λ (x : Outcome). x .values) e) (held .1);
+    }
+
+run-requires : tie.Need-run-requires
+run-requires c κs = search needs
+
+same-length : tie.Need-same-length
+same-length c = search needs
+
+same-length-2 : tie.Need-same-length-2
+same-length-2 c = search needs
+
+returns : tie.Need-returns
+returns c =
+    let ran = c .before .before .before .before in
+    let called = ran .before .before .before .before .before .before in
+    ample _ _ _ (called .pre .0) (called .pre .1) (ran .run .ensures)
+
+pub run-ample-spec : {M : Type 1} → statement M
+run-ample-spec = tie.close (tie.spec run-requires same-length same-length-2 returns)

@@ -1,0 +1,205 @@
+//! The sheets that the gate gives to program `table`, beside the examples: one for each number that
+//! it answers, and those that open and reveal the most.
+
+use super::draft::Draft;
+use super::examples;
+use super::fault::{with_faults, Fault};
+use crate::cases::generator::Generator;
+use crate::dealer::Dealer;
+use crate::script::command::{script_of, Command};
+
+const SEED: u64 = 0x5EED_0006;
+
+/// What the bits of the comparisons spell.
+const SPELLED: u32 = 0x5555_5555;
+
+/// Each sheet with its name.
+pub fn all() -> Vec<(String, Vec<u8>)> {
+    let ends = faults().into_iter().chain(stops());
+    let ends = ends.map(|(number, fault)| (format!("end-{number}"), spoiled(number, fault)));
+    let large = [
+        ("bit-tests", bit_tests()),
+        ("most-openings", most_openings()),
+        ("most-reveals", most_reveals()),
+    ];
+    let large = large.map(|(name, draft)| (name.to_owned(), draft.to_bytes()));
+    ends.chain(large).collect()
+}
+
+/// The bytes of the sheet with this name.
+pub fn named(name: &str) -> Option<Vec<u8>> {
+    let mut sheets = all().into_iter();
+    sheets.find(|sheet| sheet.0 == name).map(|sheet| sheet.1)
+}
+
+/// The example of three calls with this fault.
+fn spoiled(number: u32, fault: Fault) -> Vec<u8> {
+    let mut generator = Generator::at(SEED, number.into());
+    with_faults(&mut generator, examples::three_calls(), vec![fault])
+}
+
+/// The number that the input is refused with for each fault.
+fn faults() -> [(u32, Fault); 11] {
+    let (row, party) = (1, 2);
+    [
+        (1, Fault::Cut(10)),
+        (2, Fault::Byte { place: 0, value: 4 }),
+        (3, Fault::Byte { place: 1, value: 8 }),
+        (4, Fault::Longer(1)),
+        (
+            5,
+            Fault::Share {
+                row,
+                party,
+                value: 65_521,
+            },
+        ),
+        (
+            6,
+            Fault::Row {
+                row,
+                party,
+                amount: 1,
+            },
+        ),
+        (
+            7,
+            Fault::MaskBit {
+                mask: 2,
+                bit: 15,
+                secret: 2,
+            },
+        ),
+        (
+            8,
+            Fault::Triple {
+                triple: 77,
+                amount: 1,
+            },
+        ),
+        (9, Fault::Script(vec![0x0E])),
+        (10, Fault::Script(vec![])),
+        (11, Fault::Script(vec![0x01, 64, 0x00])),
+    ]
+}
+
+/// Scripts that three inputs, three masks and 78 triples do not suffice for, or that read register
+/// 63, which is unset. A value is revealed before, so that lines stand before the last one.
+fn stops() -> [(u32, Fault); 4] {
+    let (d, a, k) = (1, 0, 15);
+    let stop = |commands: &[Command]| {
+        let first = [Command::Load { d: a }, Command::Reveal { a }];
+        Fault::Script(script_of(&[&first, commands].concat()))
+    };
+    [
+        (21, stop(&[Command::Reveal { a: 63 }])),
+        (22, stop(&[Command::Load { d }; 3])),
+        (23, stop(&[Command::Blocks { d, a, k, m: 6 }; 4])),
+        (24, stop(&[Command::Ltz { d, a, k }; 2])),
+    ]
+}
+
+/// 17 comparisons of 31 bits, which take 510 triples, and as many REVEALs as the script holds. The
+/// bits are compared with numbers below, equal to and over the one that they spell.
+fn bit_tests() -> Draft {
+    let (b, w) = (0, 31);
+    let mut commands: Vec<Command> = (0..w).map(|d| Command::Load { d }).collect();
+    commands.extend((31..48).map(|d| Command::Bitlt {
+        d,
+        b,
+        w,
+        v: SPELLED - 39 + u32::from(d),
+    }));
+    commands.extend((0..48).cycle().take(412).map(|a| Command::Reveal { a }));
+    let bits: Vec<u32> = (0..w).map(|i| SPELLED >> i & 1).collect();
+    seven_parties(31, &commands, &bits, 0)
+}
+
+/// 1,024 + 6 + 498 openings in a script of 1,024 bytes. No sheet opens more: a command takes at most
+/// 87 triples, so six are needed for all 512; and a seventh mask is one opening more, but its command
+/// stands in the place of two REVEALs.
+fn most_openings() -> Draft {
+    let (a, k) = (0, 30);
+    let mut commands = vec![Command::Load { d: a }];
+    commands.extend((1..6).map(|d| Command::Ltz { d, a, k }));
+    commands.push(Command::Trunc { d: 6, a, k, m: 24 });
+    commands.extend((0..7).cycle().take(498).map(|a| Command::Reveal { a }));
+    seven_parties(32, &commands, &[1_610_612_736], 6)
+}
+
+/// 510 REVEALs: the first command has to set a register, and the last is END.
+fn most_reveals() -> Draft {
+    let mut commands = vec![Command::Load { d: 63 }];
+    commands.extend([Command::Reveal { a: 63 }; 510]);
+    seven_parties(33, &commands, &[2_147_483_646], 0)
+}
+
+/// A sheet of the largest field with the most parties, and all triples that the commands take.
+fn seven_parties(index: u64, commands: &[Command], secrets: &[u32], masks: usize) -> Draft {
+    let mut generator = Generator::at(SEED, index);
+    let mut dealer = Dealer::new(&mut generator, 3, (7, 3));
+    let p = dealer.field.modulus;
+    let masks = dealer.generator.list(masks, p);
+    Draft::deal(&mut dealer, commands, secrets, &masks)
+}
+
+#[cfg(test)]
+mod tests {
+    use super::*;
+    use crate::run_case::{Case, Outcome};
+    use crate::sheet::header::{LONGEST_SCRIPT, MOST_TRIPLES};
+    use crate::table::values_revealed;
+
+    fn outcome(name: &str) -> Outcome {
+        Case::with_room(named(name).expect(name)).outcome()
+    }
+
+    #[test]
+    fn there_is_a_sheet_for_each_number_that_the_program_answers() {
+        for number in (1..=11).chain(21..=24) {
+            let answer = outcome(&format!("end-{number}")).answer;
+            assert_eq!(answer.number, number);
+            assert_eq!(answer.openings > 0, number > 20, "{number}");
+        }
+        assert_eq!(all().len(), 15 + 3);
+        assert_eq!(named("end-25"), None);
+    }
+
+    #[test]
+    fn large_sheets_end_well_with_these_openings() {
+        for (name, triples, openings, revealed, script) in [
+            ("bit-tests", 510, 1432, 412, 1023),
+            ("most-openings", 512, 1528, 498, 1024),
+            ("most-reveals", 0, 510, 510, 1023),
+        ] {
+            let outcome = outcome(name);
+            let answer = outcome.answer;
+            assert_eq!((answer.number, answer.place), (0, script - 1), "{name}");
+            assert_eq!((answer.triples, answer.openings), (triples, openings));
+            assert_eq!(values_revealed(&answer), revealed);
+            assert_eq!(outcome.record.len(), 7 * openings + 3);
+        }
+    }
+
+    #[test]
+    fn bit_tests_have_both_results() {
+        let revealed = outcome("bit-tests").revealed;
+        let (below, rest) = revealed[31..48].split_at(8);
+        assert_eq!((below, rest), (&[1; 8][..], &[0; 9][..]));
+    }
+
+    /// What so many commands with a mask and BITLTs open at most, with REVEALs in the rest of the
+    /// script after LOAD and END. For an opening MUL takes as many bytes as REVEAL.
+    fn most(masks: usize, bit_tests: usize) -> usize {
+        let triples = (87 * masks + 30 * bit_tests).min(MOST_TRIPLES);
+        let reveals = (LONGEST_SCRIPT - 3 - 4 * masks - 8 * bit_tests) / 2;
+        2 * triples + masks + reveals
+    }
+
+    #[test]
+    fn no_sheet_opens_more() {
+        let mixtures = (0..=16).flat_map(|masks| (0..=18).map(move |tests| (masks, tests)));
+        let largest = mixtures.map(|(masks, tests)| most(masks, tests)).max();
+        assert_eq!(largest, Some(outcome("most-openings").answer.openings));
+    }
+}
