@@ -190,7 +190,7 @@ mod tests {
             ("LTZ of 4, out of range: 12", 12),
             ("OVER v=2 of 3: 1", 1),
             ("OVER k=2 v=2 of 2: 0", 0),
-            ("BLOCKS m=1, 3: 1", 1),
+            ("BLOCKS m=1, 2: 1", 1),
             ("MOD m=2, -1: 3", 3),
             ("field 1, MOD k=7 m=2, -41: 3", 3),
         ] {

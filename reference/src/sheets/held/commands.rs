@@ -255,7 +255,7 @@ fn with_masks() -> Vec<Small> {
         one("LTZ of 4, out of range: 12", Ltz { d, a, k }, 4, 5),
         one("OVER v=2 of 3: 1", Over { d, a, k, v: 2 }, 3, 5),
         one("OVER k=2 v=2 of 2: 0", Over { d, a, k: 2, v: 2 }, 2, 3),
-        one("BLOCKS m=1, 3: 1", Blocks { d, a, k, m: 1 }, 3, 5),
+        one("BLOCKS m=1, 2: 1", Blocks { d, a, k, m: 1 }, 2, 5),
         small(
             "a mask and its triples are not used again",
             &after_loads(
