@@ -42,7 +42,10 @@ not-empty =
           };
       revealed = refl;
       reveals = refl;
-      refused-number = refl;
+      first-ends = refl;
+      second-ends = refl;
+      first-refused = refl;
+      second-refused = refl;
       refused-revealed = refl;
       first-secret = refl;
       second-secret = refl;

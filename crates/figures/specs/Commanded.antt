@@ -12,11 +12,11 @@ use Rattle.figures.specs.Figures.{large, of, wide, Figure, figure, Compu
 use Rattle.figures.specs.Witness.{line}
 
 -- Field 0, three parties, threshold 1: masks of 5 and 12, bit 0 first, and six triples of 2, 3 and 6. Each row is v + 4x for its secret v.
-abbrev pub five : List ℕ
-five = 5 ∷ 9 ∷ 0 ∷ 4 ∷ 8 ∷ 12 ∷ 5 ∷ 9 ∷ 0 ∷ 4 ∷ 8 ∷ 12 ∷ []
+abbrev pub fiveShares : List ℕ
+fiveShares = 5 ∷ 9 ∷ 0 ∷ 4 ∷ 8 ∷ 12 ∷ 5 ∷ 9 ∷ 0 ∷ 4 ∷ 8 ∷ 12 ∷ []
 
-abbrev pub twelve : List ℕ
-twelve = 4 ∷ 8 ∷ 12 ∷ 4 ∷ 8 ∷ 12 ∷ 5 ∷ 9 ∷ 0 ∷ 5 ∷ 9 ∷ 0 ∷ []
+abbrev pub twelveShares : List ℕ
+twelveShares = 4 ∷ 8 ∷ 12 ∷ 4 ∷ 8 ∷ 12 ∷ 5 ∷ 9 ∷ 0 ∷ 5 ∷ 9 ∷ 0 ∷ []
 
 abbrev pub triples : ℕ → List ℕ
 triples zero = []
@@ -38,34 +38,37 @@ commanded command input mask = ranWith 1 (1 ∷ 0 ∷ (command ++ (12 ∷ 1 ∷ 
 
 -- LOAD 0, LOAD 1, LOAD 2; BITLT 3 0 3 5; REVEAL 3; END
 abbrev pub compared : List ℕ → List ℕ
-compared bits = ranWith 3 (1 ∷ 0 ∷ 1 ∷ 1 ∷ 1 ∷ 2 ∷ 13 ∷ 3 ∷ 0 ∷ 3 ∷ 5 ∷ 0 ∷ 0 ∷ 0 ∷ 12 ∷ 3 ∷ 0 ∷ []) bits five
+compared bits = ranWith 3 (1 ∷ 0 ∷ 1 ∷ 1 ∷ 1 ∷ 2 ∷ 13 ∷ 3 ∷ 0 ∷ 3 ∷ 5 ∷ 0 ∷ 0 ∷ 0 ∷ 12 ∷ 3 ∷ 0 ∷ []) bits fiveShares
 
+-- number, masks, triples, openings and the value revealed: MOD, TRUNC and BITLT
 unfoldable pub remainders : List Figure
 remainders =
     -- MOD m=1, −3, r = 12: 1
-    figure (commanded (7 ∷ 1 ∷ 0 ∷ 3 ∷ 1 ∷ []) (1 ∷ 5 ∷ 9 ∷ []) twelve) (0 ∷ 1 ∷ 4 ∷ 10 ∷ 1 ∷ [])
+    figure (commanded (7 ∷ 1 ∷ 0 ∷ 3 ∷ 1 ∷ []) (1 ∷ 5 ∷ 9 ∷ []) twelveShares) (0 ∷ 1 ∷ 4 ∷ 10 ∷ 1 ∷ [])
     -- TRUNC m=1, −3: 11; and 3: 1
-    ∷ figure (commanded (8 ∷ 1 ∷ 0 ∷ 3 ∷ 1 ∷ []) (1 ∷ 5 ∷ 9 ∷ []) five) (0 ∷ 1 ∷ 4 ∷ 10 ∷ 11 ∷ [])
-    ∷ figure (commanded (8 ∷ 1 ∷ 0 ∷ 3 ∷ 1 ∷ []) (7 ∷ 11 ∷ 2 ∷ []) five) (0 ∷ 1 ∷ 4 ∷ 10 ∷ 1 ∷ [])
+    ∷ figure (commanded (8 ∷ 1 ∷ 0 ∷ 3 ∷ 1 ∷ []) (1 ∷ 5 ∷ 9 ∷ []) fiveShares) (0 ∷ 1 ∷ 4 ∷ 10 ∷ 11 ∷ [])
+    ∷ figure (commanded (8 ∷ 1 ∷ 0 ∷ 3 ∷ 1 ∷ []) (7 ∷ 11 ∷ 2 ∷ []) fiveShares) (0 ∷ 1 ∷ 4 ∷ 10 ∷ 1 ∷ [])
     -- MOD m=2, −1: 3
-    ∷ figure (commanded (7 ∷ 1 ∷ 0 ∷ 3 ∷ 2 ∷ []) (3 ∷ 7 ∷ 11 ∷ []) five) (0 ∷ 1 ∷ 6 ∷ 14 ∷ 3 ∷ [])
+    ∷ figure (commanded (7 ∷ 1 ∷ 0 ∷ 3 ∷ 2 ∷ []) (3 ∷ 7 ∷ 11 ∷ []) fiveShares) (0 ∷ 1 ∷ 6 ∷ 14 ∷ 3 ∷ [])
     -- BITLT w=3, v=5, bits of 6, of 5: 1, 0; BITLT w=1, v=0, bit 1: 1, no triple
     ∷ figure (compared (4 ∷ 8 ∷ 12 ∷ 5 ∷ 9 ∷ 0 ∷ 5 ∷ 9 ∷ 0 ∷ [])) (0 ∷ 0 ∷ 2 ∷ 5 ∷ 1 ∷ [])
     ∷ figure (compared (5 ∷ 9 ∷ 0 ∷ 4 ∷ 8 ∷ 12 ∷ 5 ∷ 9 ∷ 0 ∷ [])) (0 ∷ 0 ∷ 2 ∷ 5 ∷ 0 ∷ [])
-    ∷ figure (commanded (13 ∷ 1 ∷ 0 ∷ 1 ∷ 0 ∷ 0 ∷ 0 ∷ 0 ∷ []) (5 ∷ 9 ∷ 0 ∷ []) five) (0 ∷ 0 ∷ 0 ∷ 1 ∷ 1 ∷ [])
+    ∷ figure (commanded (13 ∷ 1 ∷ 0 ∷ 1 ∷ 0 ∷ 0 ∷ 0 ∷ 0 ∷ []) (5 ∷ 9 ∷ 0 ∷ []) fiveShares) (0 ∷ 0 ∷ 0 ∷ 1 ∷ 1 ∷ [])
     ∷ []
 
+-- the same of LTZ
 unfoldable pub signs : List Figure
 signs =
     -- LTZ −4, −1: 1, 1; LTZ 0, 3: 0, 0; LTZ of 4, out of range: 12
-    figure (commanded (9 ∷ 1 ∷ 0 ∷ 3 ∷ []) (0 ∷ 4 ∷ 8 ∷ []) five) (0 ∷ 1 ∷ 6 ∷ 14 ∷ 1 ∷ [])
-    ∷ figure (commanded (9 ∷ 1 ∷ 0 ∷ 3 ∷ []) (3 ∷ 7 ∷ 11 ∷ []) five) (0 ∷ 1 ∷ 6 ∷ 14 ∷ 1 ∷ [])
-    ∷ figure (commanded (9 ∷ 1 ∷ 0 ∷ 3 ∷ []) (4 ∷ 8 ∷ 12 ∷ []) five) (0 ∷ 1 ∷ 6 ∷ 14 ∷ 0 ∷ [])
-    ∷ figure (commanded (9 ∷ 1 ∷ 0 ∷ 3 ∷ []) (7 ∷ 11 ∷ 2 ∷ []) five) (0 ∷ 1 ∷ 6 ∷ 14 ∷ 0 ∷ [])
-    ∷ figure (commanded (9 ∷ 1 ∷ 0 ∷ 3 ∷ []) (8 ∷ 12 ∷ 3 ∷ []) five) (0 ∷ 1 ∷ 6 ∷ 14 ∷ 12 ∷ [])
+    figure (commanded (9 ∷ 1 ∷ 0 ∷ 3 ∷ []) (0 ∷ 4 ∷ 8 ∷ []) fiveShares) (0 ∷ 1 ∷ 6 ∷ 14 ∷ 1 ∷ [])
+    ∷ figure (commanded (9 ∷ 1 ∷ 0 ∷ 3 ∷ []) (3 ∷ 7 ∷ 11 ∷ []) fiveShares) (0 ∷ 1 ∷ 6 ∷ 14 ∷ 1 ∷ [])
+    ∷ figure (commanded (9 ∷ 1 ∷ 0 ∷ 3 ∷ []) (4 ∷ 8 ∷ 12 ∷ []) fiveShares) (0 ∷ 1 ∷ 6 ∷ 14 ∷ 0 ∷ [])
+    ∷ figure (commanded (9 ∷ 1 ∷ 0 ∷ 3 ∷ []) (7 ∷ 11 ∷ 2 ∷ []) fiveShares) (0 ∷ 1 ∷ 6 ∷ 14 ∷ 0 ∷ [])
+    ∷ figure (commanded (9 ∷ 1 ∷ 0 ∷ 3 ∷ []) (8 ∷ 12 ∷ 3 ∷ []) fiveShares) (0 ∷ 1 ∷ 6 ∷ 14 ∷ 12 ∷ [])
     ∷ []
 
--- field 2: LOAD 0, the command, REVEAL 1 on the deal `wide`, with room for 86 openings of three shares
+-- field 2: LOAD 0, the command, REVEAL 1 on the deal `wide`, with room for 86 openings of three shares. The places are those of OVER, and none is
+-- compared.
 unfoldable pub stopShown : Stop → List ℕ
 stopShown x = let s = x .state .spent in x .number ∷ s .masks ∷ s .triples ∷ s .openings ∷ x .state .shown
 
@@ -75,6 +78,7 @@ performed c x =
     (runLines large (record { inputs = 1; masks = 1; triples = 42; parties = 3; log = 258; shown = 1 }) (x ∷ []) 0
     (line 0 (LOAD 0) ∷ line 2 c ∷ line 10 (REVEAL 1) ∷ []) (start wide))
 
+-- the rows of field 2
 unfoldable pub larges : List Figure
 larges =
     -- field 2, OVER k=15 v=170 of 170, 171: 0, 1
@@ -88,6 +92,7 @@ larges =
     ∷ figure (performed (LTZ 1 0 15) (of large 1)) (0 ∷ 1 ∷ 42 ∷ 86 ∷ 0 ∷ [])
     ∷ []
 
+-- The P rows as commands: what each run gives is what the paper prints, with its counts.
 pub record Commanded : Type 0 where
   pub remainders-compute : Computes remainders
   pub signs-compute : Computes signs

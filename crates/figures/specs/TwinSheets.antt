@@ -44,7 +44,10 @@ pub record NotEmpty : Type 0 where
   pub twins : Twins (2 ∷ []) (sheet one) (sheet three)
   pub revealed : revealedBy (sheet one) 63 1 ≡ revealedBy (sheet three) 63 1
   pub reveals : revealedBy (sheet one) 63 1 ≡ 1 ∷ []
-  pub refused-number : stopOf (sheet one) 62 1 .number ≡ 25
+  pub first-ends : stopOf (sheet one) 63 1 .number ≡ 0
+  pub second-ends : stopOf (sheet three) 63 1 .number ≡ 0
+  pub first-refused : stopOf (sheet one) 62 1 .number ≡ 25
+  pub second-refused : stopOf (sheet three) 62 1 .number ≡ 25
   pub refused-revealed : revealedBy (sheet one) 62 1 ≡ revealedBy (sheet three) 62 1
   pub first-secret : secrets small (inputIn (headerOf (sheet one)) (sheet one)) ≡ 1 ∷ []
   pub second-secret : secrets small (inputIn (headerOf (sheet three)) (sheet three)) ≡ 3 ∷ []

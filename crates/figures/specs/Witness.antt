@@ -37,7 +37,7 @@ seen x =
     ∷ secrets small (take 12 (s .registers)) ∷ []
 
 -- It is accepted, and with buffers that are just large enough it stops with 0 at END: 1 input, 5 masks, 26 triples and 58 openings are
--- spent, the value 0 is revealed, and the registers have the secrets that the plain interpreter gives.
+-- spent, the value 0 is revealed, and the first twelve registers have these secrets.
 pub record Witness : Type 0 where
   pub is-accepted : Accepted sheet
   pub has-lines : is-accepted .lines ≡ lines

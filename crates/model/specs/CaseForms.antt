@@ -1,4 +1,5 @@
--- The forms of the rows in SheetCases, ScriptCases, RunCases, MaskCases and EntryCases: what the definitions give, and what the paper says.
+-- The forms of the rows in SheetCases, ScriptCases, RunCases, MaskCases and EntryCases: what the definitions give, and what the
+-- reference answers by the paper.
 -- Assumes nothing.
 use mathlib.Core.Path.{_≡_}
 use mathlib.Core.Bool.{Bool, true, false, cond}
@@ -29,7 +30,7 @@ seen x =
     (x .number ∷ x .place ∷ x .inputs ∷ x .masks ∷ x .triples ∷ x .openings ∷ x .values ∷ []) ∷ x .log ∷ x .revealed
     ∷ registersSeen 0 (x .marks) (x .registers)
 
--- a run, and what the paper says that it leaves
+-- a run, and what the reference answers that it leaves
 pub record Case : Type 0 where
   pub computed : List (List ℕ)
   pub told : List (List ℕ)
@@ -49,7 +50,7 @@ stopped header script shares number place =
 abbrev pub scripted : ℕ → List ℕ → ℕ → ℕ → Case
 scripted f script number place = stopped (f ∷ 3 ∷ 1 ∷ 0 ∷ 0 ∷ 0 ∷ 0 ∷ 0 ∷ 0 ∷ length script ∷ 0 ∷ []) script [] number place
 
--- the definitions give what the paper says, row by row
+-- the definitions give what the reference answers, row by row
 abbrev pub Hold : List Case → Type 0
 Hold cases = map (λ c. c .computed) cases ≡ map (λ c. c .told) cases
 
@@ -62,7 +63,7 @@ pub record Answer : Type 0 where
 abbrev pub answer : ℕ → ℤ → List ℕ → Answer
 answer number value left = record { number = number; value = value; left = left }
 
--- a call of an entry, and what the paper says that it answers
+-- a call of an entry, and what the reference answers
 pub record Entry : Type 0 where
   pub computed : Answer
   pub told : Answer

@@ -24,14 +24,14 @@ checked mark inputs masks triples log shown =
     check (record { inputs = inputs; masks = masks; triples = triples; parties = 3; log = log; shown = shown }) taking
     (record { inputs = 0; masks = 0; triples = 0; openings = 0; revealed = 0; marks = mark ∷ [] })
 
--- each number before all those after it, and then alone
+-- each number before all those after it; then 0, where nothing is missing; then 21 to 25 alone
 unfoldable pub checks : List ℕ
 checks =
     checked false 0 0 0 0 0 ∷ checked true 0 0 0 0 0 ∷ checked true 1 0 0 0 0 ∷ checked true 1 1 0 0 0 ∷ checked true 1 1 1 2 0
     ∷ checked true 1 1 1 3 0 ∷ checked true 1 1 1 3 1 ∷ checked false 1 1 1 3 1 ∷ checked true 0 1 1 3 1 ∷ checked true 1 0 1 3 1
     ∷ checked true 1 1 0 3 1 ∷ checked true 1 1 1 2 1 ∷ []
 
--- Each row of the five tables computes to what the paper says of it. The reference, a separately written program, writes the tables, and
+-- Each row of the five tables computes to what the reference, a separately written program, answers by the paper. It writes the tables, and
 -- the proved programs `cases` and `entries` answer the same sheets and calls.
 pub record Cases : Type 0 where
   pub sheets : Hold sheetCases

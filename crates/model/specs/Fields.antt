@@ -24,7 +24,7 @@ unfoldable pub inverse : ℕ → ℕ → ℕ
 inverse p zero = 0
 inverse p (suc e) = (1 + e * p ^ 11 % suc e * p) / suc e
 
--- 2^m modulo p, and its inverse: m times the half of 1, which is (p + 1) / 2
+-- 2^m modulo p, and its inverse: 1 halved m times, and to halve is to multiply by (p + 1) / 2
 unfoldable pub powerOf2 : ℕ → ℕ → ℕ
 powerOf2 p m = 2 ^ m % p
 

@@ -1,5 +1,5 @@
 -- What the paper's formulas are: "For a in the k-bit range these are exact remainder, floor and sign; outside they are these formulas." Each is
--- said by arithmetic alone, of a secret a that a command reads and the secret z that it leaves.
+-- said by arithmetic alone, of a secret a that a command reads and the secret z that it leaves; BITLT of what are not bits by the rule `less`.
 -- Assumes nothing.
 use mathlib.Core.Path.{_≡_}
 use mathlib.Core.Bool.{Bool, cond}
@@ -62,7 +62,7 @@ pub record Exceeds (p k v a z : ℕ) : Type 0 where
   pub sign : Signs p k (sub p v a) z
   pub exact : T (inRange k (readBack p v -ℤ readBack p a)) → z ≡ one (ltZ (readBack p v) (readBack p a))
 
--- BLOCKS leaves z of a: "finished blocks of 2^m seconds, today equal to TRUNC"; of a number that is 0 or more, as many as are whole in it
+-- BLOCKS leaves z of a: "finished blocks of 2^m seconds, today equal to TRUNC"; of a number from 0 to 2^(k−1) − 1, as many as are whole in it
 pub record Charges (p k m a z : ℕ) : Type 0 where
   pub divides : Divides p k m a z
   pub finished : a < 2 ^ (k - 1) → z ≡ a / 2 ^ m

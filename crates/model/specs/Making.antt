@@ -39,6 +39,7 @@ pub record Says (s : List ℕ) (h : Header) (script : List ℕ) (input : List Ro
   pub input-is : inputIn h s ≡ input
   pub deal-is : dealIn h s ≡ d
 
+-- Reading undoes making, and making undoes reading.
 pub record Making : Type 0 where
   pub reading-undoes : (h : Header) (script : List ℕ) (input : List Row) (d : Deal) → Parts h script input d
       → Says (sheetOf h script input d) h script input d

@@ -1,5 +1,5 @@
 -- Demand 3 is about runs that there are: each well-formed deal makes an accepted sheet, which reads as the parts that it is made of; and the deal of
--- an accepted sheet is one of these deals, its run on that deal being its own run.
+-- an accepted sheet is one of these deals, and where the sheet consists of bytes, the sheet made on that deal is itself.
 -- Assumes nothing.
 use mathlib.Core.Path.{_≡_}
 use mathlib.Core.List.{List}
@@ -17,6 +17,7 @@ pub record RealRun (s : List ℕ) (d : Deal) : Type 0 where
   pub says : Says (madeOn s d) (headerOf s) (scriptIn (headerOf s) s) (inputIn (headerOf s) s) d
   pub bytes : Below 256 s → Below 256 (madeOn s d)
 
+-- for every accepted sheet
 pub record RealRuns : Type 0 where
   pub made : (s : List ℕ) → Accepted s → (d : Deal) → WellFormed (headerOf s) d → RealRun s d
   pub own-deal : (s : List ℕ) → Accepted s → WellFormed (headerOf s) (dealIn (headerOf s) s)

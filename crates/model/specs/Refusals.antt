@@ -30,11 +30,13 @@ pub record Numbered (sheet : List ℕ) (number place : ℕ) : Type 0 where
   -- the list of "Refused because of the state", 21 to 26; "Otherwise the answer is 0"
   pub state : ((number ≡ 0) ⊎ From 21 26 number) ↔ Accepted sheet
   pub is-run : T (isRun number) ↔ Accepted sheet
-  -- "each over the whole sheet before the next; 9 to 11 are tried command by command": what stands before the script
+  -- "each over the whole sheet before the next; 9 to 11 are tried command by command": 1 to 8 exactly where a test before the
+  -- script refuses
   pub sheet-first : From 1 8 number ↔ (sheetNumber sheet ≢ 0)
   -- "The place is 0 for 1 to 8"
   pub sheet-place : From 1 8 number → (number ≡ sheetNumber sheet) × (place ≡ 0)
-  -- and then the script: "for 9 to 11 the command's offset in the script, the script length if END is missing, or the offset just after END"
+  -- and then the script: "for 9 to 11 the command's offset in the script, the script length if END is missing, or the offset just after END" (which of these it
+  -- is: `scriptStep`)
   pub script : (c i : ℕ) → sheetNumber sheet ≡ 0 → sheetScript sheet ≡ refused c i → (number ≡ c) × (place ≡ i) × From 9 11 c
 
 -- for every sheet, with buffers of any lengths: how its run stops, and its outcome

@@ -67,7 +67,8 @@ pub record Shamir (p n t : ℕ) : Type 0 where
   -- any t parties' shares of a sharing say nothing of its secret
   pub hidden : (set x : List ℕ) (v : ℕ) → Group n t set → Sharing p n t x → v < p → OneKept p n t set x v
 
--- The same of the entries: each undoes the other on what the other accepts, and 6 is said of exactly the rows that are no sharing.
+-- The same of the entries: each undoes the other on what the other accepts, and of rows of n shares below p, 6 is said of exactly those
+-- that are no sharing.
 pub record Entries (f n t : ℕ) : Type 0 where
   pub recover-undoes : (s : ℕ) (cs out : List ℕ) → shareNumber f n t s cs out ≡ 0 → (out′ : List ℕ) → length out′ ≡ t
       → (recoverNumber f n t (shareLeft f n t s cs out) out′ ≡ 0)
