@@ -1,10 +1,9 @@
 //! The text of the model's tables of cases (crates/model/specs), with the answers that this crate computes.
 
-use crate::case::{Case, RecoverCase, ShareCase};
+use crate::case::Case;
 use crate::cases::held as calls;
-use crate::sharing::{recover, share};
+use crate::compare::Entered;
 use crate::sheets::held::{self as sheets, Held, Left};
-use crate::signed::{decode, encode};
 use crate::table::values_revealed;
 
 pub const NAMES: [&str; 5] = [
@@ -205,56 +204,33 @@ fn told(left: &Left) -> String {
     format!("({} ∷ [])", lists.join(" ∷ "))
 }
 
+/// The call, and what it answers. Encode and decode leave no list, and share has no value.
 fn entry(call: &Case) -> String {
+    let entered = Entered::by_reference(call);
+    let (number, value, left) = (entered.number, signed(entered.value), list(&entered.lent));
     match call {
-        Case::Share(call) => shared(call),
-        Case::Recover(call) => recovered(call),
+        Case::Share(call) => format!(
+            "shared {} {} {} {} {} {} {number} {left}",
+            call.field,
+            call.parties,
+            call.threshold,
+            call.secret,
+            list(&call.coefficients),
+            call.lent.len()
+        ),
+        Case::Recover(call) => format!(
+            "recovered {} {} {} {} {} {number} {value} {left}",
+            call.field,
+            call.parties,
+            call.threshold,
+            list(&call.row),
+            call.lent.len()
+        ),
         Case::Encode { field, k, a } => {
-            let (number, value) = encode(*field, *k, *a);
-            let (a, value) = (signed(*a), signed(value.into()));
-            format!("encoded {field} {k} {a} {number} {value}")
+            format!("encoded {field} {k} {} {number} {value}", signed(*a))
         }
-        Case::Decode { field, v } => {
-            let (number, value) = decode(*field, *v);
-            format!("decoded {field} {v} {number} {}", signed(value))
-        }
+        Case::Decode { field, v } => format!("decoded {field} {v} {number} {value}"),
     }
-}
-
-fn shared(call: &ShareCase) -> String {
-    let ShareCase {
-        field,
-        parties,
-        threshold,
-        secret,
-        coefficients,
-        lent,
-    } = call;
-    let mut left = lent.clone();
-    let number = share(
-        *field,
-        *parties,
-        *threshold,
-        *secret,
-        coefficients,
-        &mut left,
-    );
-    let (coefficients, length, left) = (list(coefficients), lent.len(), list(&left));
-    format!("shared {field} {parties} {threshold} {secret} {coefficients} {length} {number} {left}")
-}
-
-fn recovered(call: &RecoverCase) -> String {
-    let RecoverCase {
-        field,
-        parties,
-        threshold,
-        row,
-        lent,
-    } = call;
-    let mut left = lent.clone();
-    let (number, value) = recover(*field, *parties, *threshold, row, &mut left);
-    let (row, length, value, left) = (list(row), lent.len(), signed(value.into()), list(&left));
-    format!("recovered {field} {parties} {threshold} {row} {length} {number} {value} {left}")
 }
 
 fn signed(a: i64) -> String {

@@ -4,20 +4,20 @@ use mathlib.Core.Path.{_≡_, refl, sym, subst, _∙_}
 use mathlib.Core.Logic.{_≢_}
 use mathlib.Core.Bool.{Bool, true, false, _&&_, cond}
 use mathlib.Core.List.{List, [], _∷_, _++_, List·Memᴰ as In, List·Memᴰ·head as here, List·Memᴰ·tail as there}
-use Prim.Native.Nat.{ℕ, zero, suc, _+_, _<_}
+use Prim.Native.Nat.{ℕ, zero, suc, _+_, _≤_, _<_}
 use native.Mathlib.Decide.{decLt}
 use native.Mathlib.Omega.{arith}
-use borrow.Author.Tests.{ltb-false, eqb-false}
+use borrow.Author.Tests.{ne-eqb, eqb-false}
 use lib.Dec.{T, ltb, leb, eqb, ltb→lt, eqb→eq}
 use lib.ListN.{length, getD}
 use lib.Pow.{pow-mono}
 use Rattle.algebra.specs.Lists.{All, none, one, allBelow}
 use Rattle.algebra.proofs.Lists.{all-below}
-use Rattle.algebra.proofs.Tests.{and-left, and-right, every, every-at}
+use Rattle.algebra.proofs.Tests.{and-left, and-right, is-true, every, every-at}
 use Rattle.model.specs.Fields.{Field, Parties, modulus, bits, largestK, parties}
 use Rattle.model.specs.Sharing.{Sharing}
 use Rattle.model.specs.Steps.{Setting, Row, Triple}
-use Rattle.model.specs.Script.{Command, END, LOAD, CONST, ADD, SUB, SCALE, MUL, MOD, TRUNC, LTZ, OVER, BLOCKS, REVEAL, BITLT, Line, Script, accepted, refused, commandsAt, commandAt, sizeAt, inRanges, numberAt, withLine, scriptStep, scriptFrom, scriptOf}
+use Rattle.model.specs.Script.{Command, END, isEnd, Line, Script, accepted, refused, commandsAt, commandAt, sizeAt, inRanges, numberAt, withLine, scriptStep, scriptFrom, scriptOf}
 use Rattle.model.specs.Sheet.{headerOf, settingOf, limits, impliedLength, inputIn, dealIn, all, maskRows, tripleRows, dealRows, secrets, spell, goodMask, goodTriple, sharesBelow, aSharing, sheetNumber}
 use Rattle.model.specs.Run.{supplyOf}
 use Rattle.model.proofs.Fields.{fields, parties-facts}
@@ -27,6 +27,7 @@ use Rattle.model.proofs.Shared.{TripleOk}
 use Rattle.model.proofs.Masked.{MaskOk}
 use Rattle.model.proofs.Running.{Given, length-secrets}
 use Rattle.model.proofs.SheetDeal.{shape-in}
+use Rattle.model.proofs.Refusals.{told}
 
 pub all-each : {A : Type 0} (f : A → Bool) (xs : List A) → T (all f xs) → All (λ x. T (f x)) xs
 unfolding all
@@ -148,32 +149,17 @@ in-range false false false false e = absurd (omega arith)
 abbrev pub InRange : ℕ → ℕ → Line → Type 0
 InRange p K x = T (inRanges p K (x .command))
 
--- a command other than END
-abbrev pub isCommand : Command → Bool
-isCommand END = false
-isCommand (LOAD d) = true
-isCommand (CONST d v) = true
-isCommand (ADD d a b) = true
-isCommand (SUB d a b) = true
-isCommand (SCALE d a v) = true
-isCommand (MUL d a b) = true
-isCommand (MOD d a k m) = true
-isCommand (TRUNC d a k m) = true
-isCommand (LTZ d a k) = true
-isCommand (OVER d a k v) = true
-isCommand (BLOCKS d a k m) = true
-isCommand (REVEAL a) = true
-isCommand (BITLT d b w v) = true
+-- of the commands that may stand at a place END is the first, and no other
+endFirst : List Command → ℕ → Bool
+endFirst cs k = cond (isEnd (getD cs k END)) (eqb k 0) (ltb 0 k)
 
--- one of 14 commands, of which only the first is END
-other-command : (xs : List Command) → T (every 13 (λ b. isCommand (getD xs (suc b) END))) → (b : ℕ) → b < 14 → b ≢ 0 → T (isCommand (getD xs b END))
-other-command xs t zero h z = absurd (z refl)
-other-command xs t (suc b) h z = every-at 13 (λ b. isCommand (getD xs (suc b) END)) t b (omega arith)
-
-low-byte : (a b : Bool) (rest : ℕ) → _≡_ {A = ℕ} (cond a 10 (cond b 9 rest)) 0 → b ≡ false
-low-byte true b rest e = absurd (omega arith)
-low-byte false true rest e = absurd (omega arith)
-low-byte false false rest e = refl
+end-first : (cs : List Command) → T (every 14 (endFirst cs)) → (k : ℕ) → k ≤ 13 → isEnd (getD cs k END) ≡ eqb k 0
+unfolding endFirst
+end-first cs t k h = go (isEnd (getD cs k END)) (every-at 14 (endFirst cs) t k (omega arith))
+  where
+    go : (b : Bool) → T (cond b (eqb k 0) (ltb 0 k)) → b ≡ eqb k 0
+    go true q = sym (is-true _ q)
+    go false q = sym (ne-eqb k 0 (λ z. let l = ltb→lt 0 k q in omega arith))
 
 -- what holds of every command that is read and is not END holds of the lines of a script
 module _ (p K : ℕ) (s : List ℕ) (P : Line → Type 0) (holds : (i : ℕ) → numberAt p K s i ≡ 0 → getD s i 0 ≢ 0 → P (record { place = i; command = commandAt s i })) where
@@ -212,17 +198,13 @@ module _ (p K : ℕ) (s : List ℕ) where
   unfolding numberAt
   range-at i e = in-range (leb (length s) i) (ltb 13 (getD s i 0)) (ltb (length s) (i + sizeAt s i)) (inRanges p K (commandAt s i)) e
 
-  byte-at : (i : ℕ) → numberAt p K s i ≡ 0 → getD s i 0 < 14
-  unfolding numberAt
-  byte-at i e = omega (arith, ltb-false 13 (getD s i 0) (low-byte (leb (length s) i) (ltb 13 (getD s i 0)) _ e))
-
-  -- a command byte that is not 0 stands for another command than END
-  command-at : (i : ℕ) → getD s i 0 < 14 → getD s i 0 ≢ 0 → T (isCommand (commandAt s i))
-  unfolding commandAt
-  command-at i h z = other-command (commandsAt s i) tt (getD s i 0) h z
+  pub end-byte : (i : ℕ) → numberAt p K s i ≡ 0 → isEnd (commandAt s i) ≡ eqb (getD s i 0) 0
+  unfolding commandAt endFirst
+  end-byte i e = end-first (commandsAt s i) tt (getD s i 0) (omega (arith, told p K s i .1 e))
 
   pub lines-ok : (xs : List Line) (end : ℕ) → scriptOf p K s ≡ accepted xs end → All (InRange p K) xs
   lines-ok = lines-all p K s (InRange p K) (λ i e z. range-at i e)
 
-  pub lines-commands : (xs : List Line) (end : ℕ) → scriptOf p K s ≡ accepted xs end → All (λ x. T (isCommand (x .command))) xs
-  lines-commands = lines-all p K s (λ x. T (isCommand (x .command))) (λ i e z. command-at i (byte-at i e) z)
+  -- no line is END
+  pub lines-go-on : (xs : List Line) (end : ℕ) → scriptOf p K s ≡ accepted xs end → All (λ x. isEnd (x .command) ≡ false) xs
+  lines-go-on = lines-all p K s (λ x. isEnd (x .command) ≡ false) (λ i e z. end-byte i e ∙ ne-eqb (getD s i 0) 0 z)

@@ -2,7 +2,7 @@
 -- Assumes nothing.
 use mathlib.Core.Path.{refl}
 use Rattle.algebra.specs.Ring.{add, sub, mul}
-use Rattle.algebra.specs.Lists.{allBelow, from, total, over, sameList}
+use Rattle.algebra.specs.Lists.{allBelow, from, over, sameList}
 use Rattle.algebra.specs.Rows.{tab, row}
 use Rattle.model.specs.Fields.{modulus, bits, largestK, inverse, inversePowerOf2, parties}
 use Rattle.model.specs.Coding.{inRange, code, readBack}

@@ -1,14 +1,14 @@
 -- Exactness and counts of whole runs: by the states that a run passes through.
 -- Assumes nothing.
 use mathlib.Core.Path.{_≡_, refl, sym, ap, _∙_}
+use mathlib.Core.Bool.{false}
 use mathlib.Core.List.{List, [], _∷_, _++_, append-assoc}
 use Prim.Native.Nat.{ℕ, zero, suc, _+_, _*_}
 use native.Mathlib.Omega.{arith}
-use lib.Dec.{T}
 use lib.ListN.{replicate}
 use Rattle.algebra.specs.Lists.{All, one}
 use Rattle.model.specs.Steps.{Setting, Row, Deal}
-use Rattle.model.specs.Script.{Line}
+use Rattle.model.specs.Script.{isEnd, Line}
 use Rattle.model.specs.Costs.{Cost, cost}
 use Rattle.model.specs.Sheet.{secrets}
 use Rattle.model.specs.Run.{Supply, State, check, pay, finish, nothingSpent, start, orElse, runLines, runScript, stopOf}
@@ -21,7 +21,7 @@ use Rattle.model.proofs.Held.{Holds, holds-start, Passed, check-passed}
 use Rattle.model.proofs.Running.{Given, finish-holds}
 use Rattle.model.proofs.Balance.{Balanced, balanced-start, balanced-more}
 use Rattle.model.proofs.Performed.{reveals-more, does}
-use Rattle.model.proofs.Acceptance.{sound, all-map, given, InRange, isCommand, lines-ok, lines-commands}
+use Rattle.model.proofs.Acceptance.{sound, all-map, given, InRange, lines-ok, lines-go-on}
 
 all-head : {A : Type 0} {P : A → Type 0} {x : A} {xs : List A} → All P (x ∷ xs) → P x
 all-head (one p ps) = p
@@ -36,14 +36,14 @@ sum-more l f [] x = omega arith
 sum-more l f (y ∷ ys) x = rw (sum-more l f ys x) (omega arith)
 
 module _ {S : Setting} {K : ℕ} {u : Supply} {input : List Row} {d : Deal} (G : Given S K u input d) (xs : List Line) (ok : All (InRange (S .p) K) xs)
-    (are : All (λ x. T (isCommand (x .command))) xs) where
+    (are : All (λ x. isEnd (x .command) ≡ false) xs) where
   -- what is known after each finished command
   record Known (ys : List Line) (s : State) (vs ws : List ℕ) : Type 0 where
     pub holds : Holds S d s vs
     pub shown : s .shown ≡ ws
     pub balance : Balanced (s .spent)
     pub ranges : All (InRange (S .p) K) ys
-    pub commands : All (λ x. T (isCommand (x .command))) ys
+    pub commands : All (λ x. isEnd (x .command) ≡ false) ys
     pub done : List Line
     pub split : xs ≡ done ++ ys
     pub inputs : s .spent .inputs ≡ sumOf (S .l) (λ c. c .inputs) done
@@ -156,7 +156,7 @@ exactness sheet log shown A =
     let Q = sound sheet (A .number) in
     let G = given sheet Q log shown in
     let ok = lines-ok _ _ _ (A .lines) (A .end) (A .script) in
-    let commands = lines-commands _ _ _ (A .lines) (A .end) (A .script) in
+    let commands = lines-go-on _ _ _ (A .lines) (A .end) (A .script) in
     record {
       does = λ y ys s vs ws p e. next-does G (A .lines) ok commands p e;
       right = λ ys s vs ws p. right G (A .lines) ok commands p;

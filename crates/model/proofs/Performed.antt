@@ -12,9 +12,9 @@ use lib.Seq.{getD-set-same, getD-set-other}
 use Rattle.algebra.specs.Ring.{add, mul}
 use Rattle.algebra.specs.Lists.{from}
 use Rattle.algebra.proofs.Ring.{ring, mod-ring, reduced}
-use Rattle.algebra.proofs.Tests.{and-left, and-right}
+use Rattle.algebra.proofs.Tests.{and-left, and-right, true-false}
 use Rattle.model.specs.Steps.{Setting, Row, Deal, Step, constant, value}
-use Rattle.model.specs.Script.{Command, END, LOAD, CONST, ADD, SUB, SCALE, MUL, MOD, TRUNC, LTZ, OVER, BLOCKS, REVEAL, BITLT, register, kIn, mIn, inRanges}
+use Rattle.model.specs.Script.{Command, END, LOAD, CONST, ADD, SUB, SCALE, MUL, MOD, TRUNC, LTZ, OVER, BLOCKS, REVEAL, BITLT, isEnd, register, kIn, mIn, inRanges}
 use Rattle.model.specs.Costs.{cost}
 use Rattle.model.specs.Sheet.{secrets}
 use Rattle.model.specs.Run.{State, Supply, noRow, allSet, marked, pay, put, perform, finish}
@@ -25,7 +25,6 @@ use Rattle.model.proofs.Sharings.{secret-lt}
 use Rattle.model.proofs.Held.{Holds, Passed}
 use Rattle.model.proofs.Running.{Given, set-others, ranges, sign-ranges, low, low₂, low₃, reads, reads-second, finish-holds}
 use Rattle.model.proofs.Formulas.{field-exact}
-use Rattle.model.proofs.Acceptance.{isCommand}
 
 -- a relation of two numbers, of numbers equal to them
 equals : (P : ℕ → ℕ → Type 0) {a v z w : ℕ} → a ≡ v → z ≡ w → P v w → P a z
@@ -160,9 +159,9 @@ module _ {S : Setting} {K : ℕ} {u : Supply} {input : List Row} {d₀ : Deal} (
   E : Exact (S .p) K
   E = field-exact (G .field)
 
-  leaves : (c : Command) → T (inRanges (S .p) K c) → T (isCommand c) → Passed u (cost (S .l) c) (s .spent) → Leaves S input c s (finish S input c s)
+  leaves : (c : Command) → T (inRanges (S .p) K c) → isEnd c ≡ false → Passed u (cost (S .l) c) (s .spent) → Leaves S input c s (finish S input c s)
   unfolding finish perform put plainly cost target inRanges
-  leaves END ok t Q = absurd t
+  leaves END ok t Q = absurd (true-false t)
   leaves (LOAD d) ok t Q = (omega (arith, Q .inputs, G .inputs-many), row-left d _ (ltb→lt d 64 ok))
   leaves (CONST d v) ok t Q = let h = low d _ ok in (row-left d _ h ∙ (unfold constant in refl), left (CONST d v) ok Q refl refl)
   leaves (ADD d a b) ok t Q =
@@ -229,7 +228,7 @@ module _ {S : Setting} {K : ℕ} {u : Supply} {input : List Row} {d₀ : Deal} (
   reveals-more (BITLT d b w v) Q = shown-kept
 
   -- what a command does to its target and to the other registers
-  pub does : (c : Command) → T (inRanges (S .p) K c) → T (isCommand c) → Passed u (cost (S .l) c) (s .spent) → Does S K input c s (finish S input c s)
+  pub does : (c : Command) → T (inRanges (S .p) K c) → isEnd c ≡ false → Passed u (cost (S .l) c) (s .spent) → Does S K input c s (finish S input c s)
   does c ok t Q =
       record {
         in-range = ok;

@@ -1,7 +1,7 @@
 -- The paper, the table of commands: what the bytes of a script say, and the refusals 9 to 11 of a whole script with their places.
 -- Assumes nothing.
 use mathlib.Core.Path.{_≡_}
-use mathlib.Core.Bool.{Bool, true, _&&_, cond}
+use mathlib.Core.Bool.{Bool, true, false, _&&_, cond}
 use mathlib.Core.List.{List, [], _∷_}
 use Prim.Native.Nat.{ℕ, zero, suc, _+_, _^_}
 use lib.Dec.{ltb, leb, eqb}
@@ -20,6 +20,23 @@ pub data Command : Type 0 where
   OVER BLOCKS : ℕ → ℕ → ℕ → ℕ → Command
   REVEAL : ℕ → Command
   BITLT : ℕ → ℕ → ℕ → ℕ → Command
+
+-- the command that ends a script
+abbrev pub isEnd : Command → Bool
+isEnd END = true
+isEnd (LOAD d) = false
+isEnd (CONST d v) = false
+isEnd (ADD d a b) = false
+isEnd (SUB d a b) = false
+isEnd (SCALE d a v) = false
+isEnd (MUL d a b) = false
+isEnd (MOD d a k m) = false
+isEnd (TRUNC d a k m) = false
+isEnd (LTZ d a k) = false
+isEnd (OVER d a k v) = false
+isEnd (BLOCKS d a k m) = false
+isEnd (REVEAL a) = false
+isEnd (BITLT d b w v) = false
 
 -- "d, a, b are one-byte registers 0 to 63; k, m, w one byte; v four bytes": the commands 00 to 0D with the operands that follow place i of a
 -- script, and the one that the byte at place i says

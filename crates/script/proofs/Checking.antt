@@ -11,7 +11,7 @@ use Rattle.model.specs.Script.{Line, Script, accepted, refused, scriptFrom, scr
 use Rattle.script.specs.declared.command.Command.{Command}
 use Rattle.script.specs.declared.command.Decoded.{Decoded}
 use Rattle.script.specs.declared.command.Decoded.the-variants.{Command as Found, Refused}
-use Rattle.script.specs.Ends.{isEnd}
+use Rattle.model.specs.Script.{isEnd}
 use Rattle.script.specs.Meaning.{meant, numberOf, scriptNumber, scriptPlace}
 use Rattle.script.specs.Reading.{readingOf, readingAt}
 use Rattle.script.proofs.Decoding.{FoundAt, found-at, refused-at}

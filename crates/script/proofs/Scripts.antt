@@ -7,27 +7,14 @@ use mathlib.Core.List.{List, []}
 use Prim.Native.Nat.{ℕ, zero, suc, _+_, _-_, _≤_, _<_}
 use native.Mathlib.Numerals.{sub-one}
 use native.Mathlib.Omega.{arith}
-use lib.Dec.{T, ltb, eqb, ltb→lt}
+use lib.Dec.{eqb}
 use lib.ListN.{length, getD}
 use borrow.Author.Tests.{le-leb, eq-eqb, ne-eqb, eqb-true}
-use Rattle.algebra.proofs.Tests.{is-true, every, every-at}
-use Rattle.model.specs.Script.{Command, END, Line, Script, accepted, refused, commandAt, sizeAt, numberAt, withLine, scriptStep, scriptFrom}
-use Rattle.script.specs.Ends.{isEnd}
+use Rattle.model.specs.Script.{Line, Script, accepted, refused, commandAt, sizeAt, numberAt, withLine, scriptStep, scriptFrom}
+use Rattle.model.specs.Script.{isEnd}
 use Rattle.script.specs.Meaning.{scriptNumber, scriptPlace}
-use Rattle.script.proofs.Sizes.{commands, size-some}
-use Rattle.script.proofs.Decoding.{passed}
-
--- of the commands that may stand at a place END is the first, and no other
-endFirst : List Command → ℕ → Bool
-endFirst cs k = cond (isEnd (getD cs k END)) (eqb k 0) (ltb 0 k)
-
-end-first : (cs : List Command) → T (every 14 (endFirst cs)) → (k : ℕ) → k ≤ 13 → isEnd (getD cs k END) ≡ eqb k 0
-unfolding endFirst
-end-first cs t k h = go (isEnd (getD cs k END)) (every-at 14 (endFirst cs) t k (omega arith))
-  where
-    go : (b : Bool) → T (cond b (eqb k 0) (ltb 0 k)) → b ≡ eqb k 0
-    go true q = sym (is-true _ q)
-    go false q = sym (ne-eqb k 0 (λ z. let l = ltb→lt 0 k q in omega arith))
+use Rattle.model.proofs.WholeScript.{size-some}
+use Rattle.model.proofs.Acceptance.{end-byte}
 
 pub number-line : (x : Line) (rest : Script) → scriptNumber (withLine x rest) ≡ scriptNumber rest
 number-line x (accepted xs end) = refl
@@ -41,13 +28,9 @@ module _ (p K : ℕ) (s : List ℕ) where
   abbrev lineAt : ℕ → Line
   lineAt i = record { place = i; command = commandAt s i }
 
-  end-byte : (i : ℕ) → numberAt p K s i ≡ 0 → isEnd (commandAt s i) ≡ eqb (getD s i 0) 0
-  unfolding commandAt endFirst
-  end-byte i e = end-first (commands s i) tt (getD s i 0) (passed p K s i e .known)
-
   pub end-size : (i : ℕ) → numberAt p K s i ≡ 0 → isEnd (commandAt s i) ≡ true → sizeAt s i ≡ 1
   unfolding sizeAt
-  end-size i e f = let z : getD s i 0 ≡ 0 = eqb-true _ _ (sym (end-byte i e) ∙ f) in rw z
+  end-size i e f = let z : getD s i 0 ≡ 0 = eqb-true _ _ (sym (end-byte p K s i e) ∙ f) in rw z
 
   turn : (fuel i : ℕ) → 0 < fuel → scriptFrom fuel p K s i ≡ scriptStep (numberAt p K s i) s i (scriptFrom (fuel - 1) p K s (i + sizeAt s i))
   unfolding scriptFrom
@@ -60,7 +43,7 @@ module _ (p K : ℕ) (s : List ℕ) where
 
   module _ (fuel i : ℕ) (h : 0 < fuel) (e : numberAt p K s i ≡ 0) where
     ended : isEnd (commandAt s i) ≡ true → scriptFrom fuel p K s i ≡ cond (eqb (i + 1) (length s)) (accepted [] i) (refused 10 (i + 1))
-    ended f = rw (turn fuel i h, e, ← end-byte i e, f)
+    ended f = rw (turn fuel i h, e, ← end-byte p K s i e, f)
 
     pub script-ends : isEnd (commandAt s i) ≡ true → i + 1 ≡ length s → scriptFrom fuel p K s i ≡ accepted [] i
     script-ends f l = ended f ∙ rw (eq-eqb _ _ l)
@@ -76,7 +59,7 @@ module _ (p K : ℕ) (s : List ℕ) where
         go false q = absurd (omega arith)
 
     pub script-goes-on : isEnd (commandAt s i) ≡ false → scriptFrom fuel p K s i ≡ withLine (lineAt i) (scriptFrom (fuel - 1) p K s (i + sizeAt s i))
-    script-goes-on f = rw (turn fuel i h, e, ← end-byte i e, f)
+    script-goes-on f = rw (turn fuel i h, e, ← end-byte p K s i e, f)
 
   -- a script that is accepted from a place on has a command there
   pub accepted-at : (fuel i : ℕ) → scriptNumber (scriptFrom fuel p K s i) ≡ 0 → (numberAt p K s i ≡ 0) × (0 < fuel)

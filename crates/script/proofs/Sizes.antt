@@ -2,44 +2,19 @@
 -- Assumes nothing.
 use mathlib.Core.Path.{_≡_}
 use mathlib.Core.Logic.{_≢_}
-use mathlib.Core.Bool.{Bool, true, _&&_, cond}
-use mathlib.Core.List.{List, [], _∷_}
-use Prim.Native.Nat.{ℕ, zero, suc, _+_, _-_, _≤_, _<_}
+use mathlib.Core.Bool.{Bool, true, cond}
+use mathlib.Core.List.{List}
+use Prim.Native.Nat.{ℕ, _+_, _-_, _≤_, _<_}
 use native.Mathlib.Omega.{arith}
 use borrow.Author.Tests.{le-ltb, ne-eqb}
 use lib.Dec.{T, ltb, leb, eqb, ltb→lt, leb→le, eqb→eq}
 use lib.ListN.{length, getD}
-use Rattle.algebra.proofs.Tests.{and-left, and-right, every-at}
-use Rattle.model.specs.Bytes.{number}
-use Rattle.model.specs.Script.{Command, END, LOAD, CONST, ADD, SUB, SCALE, MUL, MOD, TRUNC, LTZ, OVER, BLOCKS, REVEAL, BITLT, sizes, sizeAt, commandAt}
+use Rattle.algebra.proofs.Tests.{every-at}
+use Rattle.model.specs.Script.{END, sizes, sizeAt, commandsAt, commandAt}
 
--- the commands that may stand at a place, by their bytes
-abbrev pub commands : List ℕ → ℕ → List Command
-commands s i =
-    let o : ℕ → ℕ = λ j. getD s (i + j) 0 in
-    let v : ℕ → ℕ = λ j. number 4 s (i + j) in
-    END ∷ LOAD (o 1) ∷ CONST (o 1) (v 2) ∷ ADD (o 1) (o 2) (o 3) ∷ SUB (o 1) (o 2) (o 3) ∷ SCALE (o 1) (o 2) (v 3) ∷ MUL (o 1) (o 2) (o 3)
-    ∷ MOD (o 1) (o 2) (o 3) (o 4) ∷ TRUNC (o 1) (o 2) (o 3) (o 4) ∷ LTZ (o 1) (o 2) (o 3) ∷ OVER (o 1) (o 2) (o 3) (v 4)
-    ∷ BLOCKS (o 1) (o 2) (o 3) (o 4) ∷ REVEAL (o 1) ∷ BITLT (o 1) (o 2) (o 3) (v 4) ∷ []
-
-pub command-at-byte : (s : List ℕ) (i k : ℕ) {op : ℕ} → op ≡ getD s i 0 → op ≡ k → commandAt s i ≡ getD (commands s i) k END
+pub command-at-byte : (s : List ℕ) (i k : ℕ) {op : ℕ} → op ≡ getD s i 0 → op ≡ k → commandAt s i ≡ getD (commandsAt s i) k END
 unfolding commandAt
 command-at-byte s i k e f = let g : getD s i 0 ≡ k = cc in rw g
-
--- a command takes a byte at least
-noZero : List ℕ → Bool
-noZero [] = true
-noZero (x ∷ xs) = leb 1 x && noZero xs
-
-positive : (xs : List ℕ) → T (noZero xs) → (k : ℕ) → 1 ≤ getD xs k 1
-unfolding noZero
-positive [] t k = omega arith
-positive (x ∷ xs) t zero = leb→le 1 x (and-left (leb 1 x) _ t)
-positive (x ∷ xs) t (suc k) = positive xs (and-right (leb 1 x) _ t) k
-
-pub size-some : (s : List ℕ) (i : ℕ) → 1 ≤ sizeAt s i
-unfolding sizeAt noZero
-size-some s i = positive sizes tt (getD s i 0)
 
 -- the default does not matter at a command byte
 pub size-known : (k : ℕ) → k ≤ 13 → getD sizes k 0 ≡ getD sizes k 1

@@ -9,9 +9,9 @@ use native.Mathlib.Omega.{arith}
 use lib.ListN.{length}
 use Rattle.model.specs.Script.{commandAt, sizeAt, withLine, scriptFrom}
 use Rattle.script.specs.declared.command.Command.{Command}
-use Rattle.script.specs.Ends.{isEnd}
+use Rattle.model.specs.Script.{isEnd}
 use Rattle.script.specs.Meaning.{meant}
-use Rattle.script.proofs.Sizes.{size-some}
+use Rattle.model.proofs.WholeScript.{size-some}
 use Rattle.script.proofs.Decoding.{FoundAt, passed}
 use Rattle.script.proofs.Scripts.{script-goes-on, enough}
 

@@ -6,7 +6,7 @@ ghost use lib.ListN.{getD};
 ghost use Rattle.model.specs.Script as Script;
 ghost use Rattle.script.specs.Meaning.{meant, numberOf};
 ghost use Rattle.script.specs.Reading.{readingOf, readingAt};
-ghost use Rattle.script.specs.Ends.{isEnd};
+ghost use Rattle.model.specs.Script.{isEnd};
 use crate::command::Command;
 use crate::command::Decoded;
 use crate::operands;
