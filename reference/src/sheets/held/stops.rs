@@ -84,7 +84,24 @@ fn unset() -> Vec<Stop> {
         .into_iter()
         .flat_map(of_two)
         .chain(of_one(1));
-    commands.map(|command| after_const(says, command)).collect()
+    commands
+        .map(|command| after_const(says, command))
+        .chain(all_but_one(says))
+        .collect()
+}
+
+/// BITLT of three registers, all set but the last, the middle or the first one.
+fn all_but_one(says: &'static str) -> [Stop; 3] {
+    use Command::*;
+    let (b, w, v) = (1, 3, 5);
+    [3, 2, 1].map(|unset| {
+        let set = (b..b + w).filter(|&d| d != unset);
+        let consts = set.map(|d| Const { d, v: 1 });
+        Stop {
+            commands: consts.chain([Bitlt { d: 0, b, w, v }]).collect(),
+            ..after_const(says, End)
+        }
+    })
 }
 
 fn no_input() -> Vec<Stop> {
@@ -193,6 +210,7 @@ fn comparisons() -> Vec<Stop> {
     vec![
         bitlt("24 before 25: BITLT w=3 takes two triples", 1, 0),
         bitlt("25: BITLT w=3 opens four rows", 2, 11),
+        bitlt("two triples and room for four rows", 2, 12),
     ]
 }
 
