@@ -13,12 +13,14 @@ use lib.ListN.{length, getD, drop, length-take}
 use Rattle.algebra.proofs.Tests.{and-true, is-true, true-false, every-at, choice}
 use Rattle.model.specs.Steps.{Setting, Row, Deal}
 use Rattle.model.specs.Script.{Command, END, LOAD, CONST, ADD, SUB, SCALE, MUL, MOD, TRUNC, LTZ, OVER, BLOCKS, REVEAL, BITLT, Line, Script, accepted, refused, sizes, sizeAt, numberAt, withLine, scriptStep, scriptFrom, scriptOf}
-use Rattle.model.specs.Costs.{Cost, cost}
+use Rattle.model.specs.Costs.{Cost, costBy, cost}
 use Rattle.model.specs.Sheet.{Header, headerOf, settingOf, scriptIn, inputIn, dealIn}
 use Rattle.model.specs.Run.{Spent, State, Supply, allSet, check, pay, finish, runLines, nothingSpent, start, supplyOf, runScript, stopOf, outcome, run}
 use Rattle.model.specs.Exactness.{Accepted, Passes, begins, goes}
 use Rattle.model.specs.Refusals.{isRun, Numbered}
-use Rattle.model.proofs.Held.{check-passed, all-same}
+use Rattle.model.proofs.StepLaws.{run-end, run-line}
+use Rattle.model.proofs.Checks.{check-passed}
+use Rattle.model.proofs.Held.{all-same}
 use Rattle.model.proofs.Acceptance.{sound}
 use Rattle.model.proofs.Balance.{Balanced, balanced-more}
 use Rattle.model.proofs.Lengths.{Fitting, fitting}
@@ -63,7 +65,7 @@ data Shows (c : Cost) : Type 0 where
   shows : (a : ℕ) → c .reads ≡ a ∷ [] → c .revealed ≡ 1 → Shows c
 
 shown-by : (l : ℕ) (c : Command) → Shows (cost l c)
-unfolding cost
+unfolding costBy
 shown-by l END = hides refl
 shown-by l (LOAD d) = hides refl
 shown-by l (CONST d v) = hides refl
@@ -138,11 +140,11 @@ module _ (h : Header) (fits : Fitting h) (people : h .n ≤ 7) (log shown : ℕ)
     finished c s k e = before-next (after (S .l) c k (is-true _ (check-passed u (cost (S .l) c) (s .spent) e .reads)))
 
     lines : (xs : List Line) (s : State) → Before (s .spent) (length xs) → Other (runLines S u input end xs s .number)
-    unfolding runLines
-    lines [] s k = omega arith
+    lines [] s k = rw (run-end S u input end s) (omega arith)
     lines (x ∷ xs) s k =
-        or-else Other (check u (cost (S .l) (x .command)) (s .spent)) (x .place) s _ (checked (S .l) (x .command) k)
-        (λ e. lines xs (finish S input (x .command) s) (finished (x .command) s k e))
+        rw (run-line S u input end x xs s)
+        (or-else Other (check u (cost (S .l) (x .command)) (s .spent)) (x .place) s _ (checked (S .l) (x .command) k)
+        (λ e. lines xs (finish S input (x .command) s) (finished (x .command) s k e)))
 
   script : (s : List ℕ) (xs : List Line) (end : ℕ) → Short (scriptIn h s) 0 (accepted xs end)
       → Other (runLines (settingOf h) u (inputIn h s) end xs (start (dealIn h s)) .number)

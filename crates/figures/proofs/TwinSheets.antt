@@ -12,11 +12,13 @@ use Rattle.model.specs.Fields.{modulus, bits, largestK, inverse, inversePowerOf
 use Rattle.model.specs.Sharing.{eval, share, newton, reciprocal, slope, interpolate, recover, secret, isSharing}
 use Rattle.model.specs.Shamir.{Agree}
 use Rattle.model.specs.Bytes.{number, rowAt}
-use Rattle.model.specs.Steps.{Deal, plus, minus, times, constant, value, beaver, product, comparisonFrom, comparison, spelled, unmasked, remainder, floor}
+use Rattle.model.specs.Trees.{spelled, comparisonFrom, comparison, remainder, floor}
+use Rattle.model.specs.Steps.{Deal, plus, minus, times, constant, value, byRows}
 use Rattle.model.specs.Script.{LOAD, REVEAL, commandAt, sizeAt, inRanges, numberAt, scriptFrom, scriptOf}
-use Rattle.model.specs.Costs.{cost}
+use Rattle.model.specs.Costs.{costBy}
 use Rattle.model.specs.Sheet.{headerOf, limits, impliedLength, scriptIn, rowsAt, masksFrom, triplesFrom, inputIn, dealIn, all, maskRows, tripleRows, spell, secrets, goodMask, goodTriple, sheetNumber, bytesOf, shareBytes, rowBytes, headerBytes, sheetOf}
-use Rattle.model.specs.Run.{allSet, marked, check, pay, put, perform, finish, runLines, nothingSpent, start, written, outcome, runScript, stopOf, run}
+use Rattle.model.specs.Commands.{command, overLines}
+use Rattle.model.specs.Run.{allSet, marked, check, pay, runLines, nothingSpent, start, written, outcome, runScript, stopOf, run}
 use Rattle.figures.specs.Witness.{line}
 use Rattle.model.specs.Secrecy.{end, row as and-row, WellFormed, Twins, runOn}
 use Rattle.figures.specs.TwinSheets.{sheet, one, three, lines, plain, NotEmpty, TooMuch}
@@ -28,7 +30,7 @@ unfolding row tab
 agree = record { same = λ z m. rw (List·Memᴰ·eq-of-singleton m) }
 
 pub not-empty : NotEmpty
-unfolding add sub mul allBelow from tab row modulus bits largestK inverse inversePowerOf2 parties eval share newton reciprocal slope interpolate recover secret sameList isSharing number rowAt plus minus times constant value beaver product comparisonFrom comparison spelled unmasked remainder floor commandAt sizeAt inRanges numberAt scriptFrom scriptOf cost headerOf limits impliedLength scriptIn rowsAt masksFrom triplesFrom inputIn dealIn all maskRows tripleRows spell secrets goodMask goodTriple sheetNumber bytesOf shareBytes rowBytes headerBytes sheetOf allSet marked check pay put perform finish runLines nothingSpent start runScript stopOf sheet lines
+unfolding add sub mul allBelow from tab row modulus bits largestK inverse inversePowerOf2 parties eval share newton reciprocal slope interpolate recover secret sameList isSharing number rowAt plus minus times constant value byRows comparisonFrom comparison spelled remainder floor commandAt sizeAt inRanges numberAt scriptFrom scriptOf costBy headerOf limits impliedLength scriptIn rowsAt masksFrom triplesFrom inputIn dealIn all maskRows tripleRows spell secrets goodMask goodTriple sheetNumber bytesOf shareBytes rowBytes headerBytes sheetOf allSet marked check pay command overLines runLines nothingSpent start runScript stopOf sheet lines
 not-empty =
     record {
       twins =
@@ -82,7 +84,7 @@ twins =
 -- what each input reveals on that deal
 reveals : (runOn (plain one) nothing (0 ∷ 0 ∷ 0 ∷ []) (0 ∷ []) .revealed ≡ 1 ∷ [])
     × (runOn (plain three) nothing (0 ∷ 0 ∷ 0 ∷ []) (0 ∷ []) .revealed ≡ 3 ∷ [])
-unfolding nothing add sub mul allBelow from over tab row modulus bits largestK inverse parties eval share newton reciprocal slope interpolate recover secret sameList isSharing number rowAt value commandAt sizeAt inRanges numberAt scriptFrom scriptOf cost headerOf limits impliedLength scriptIn rowsAt masksFrom triplesFrom inputIn dealIn all maskRows tripleRows sheetNumber bytesOf shareBytes rowBytes headerBytes sheetOf allSet marked check pay put perform finish runLines nothingSpent start written outcome runScript stopOf run plain
+unfolding nothing add sub mul allBelow from over tab row modulus bits largestK inverse parties eval share newton reciprocal slope interpolate recover secret sameList isSharing number rowAt value byRows commandAt sizeAt inRanges numberAt scriptFrom scriptOf costBy headerOf limits impliedLength scriptIn rowsAt masksFrom triplesFrom inputIn dealIn all maskRows tripleRows sheetNumber bytesOf shareBytes rowBytes headerBytes sheetOf allSet marked check pay command overLines runLines nothingSpent start written outcome runScript stopOf run plain
 reveals = (refl, refl)
 
 -- the header deals nothing

@@ -8,7 +8,8 @@ use lib.ListN.{length, replicate}
 use Rattle.model.specs.Fields.{modulus, bits}
 use Rattle.model.specs.Coding.{code, readBack}
 use Rattle.model.specs.Sharing.{share}
-use Rattle.model.specs.Steps.{Setting, Row, Deal, Step, value, stepC, stepF, stepU, comparison, remainder, floor, sign, over, blocks}
+use Rattle.model.specs.Steps.{Setting, Row, Deal, Step, value, comparison, remainder, floor, sign, over, blocks}
+use Rattle.model.specs.Parts.{stepC, stepF, stepU}
 use Rattle.model.specs.Script.{LTZ}
 use Rattle.model.specs.Costs.{cost}
 
@@ -72,7 +73,7 @@ figure xs ys = record { computed = xs; printed = ys }
 -- "Field 0, k = 3; those marked P are proved." Each row's case and result stand over it.
 unfoldable pub figures : List Figure
 figures =
-    -- MOD m=1, −3, r = 12: C 0, f 1, u 0, result 1
+    -- MOD m=1, −3, r = 12: C 0, f 1, u 0, result 1. That MOD is made of this C, f and u is `StepParts.remainder-parts` in Parts of crate model.
     figure
     (stepC small 3 (ofSigned small (negℤ (pos 3))) with12 ∷ result small (stepF small 3 (ofSigned small (negℤ (pos 3))) with12)
     ∷ value small (stepU small 3 1 (ofSigned small (negℤ (pos 3))) with12) ∷ result small (remainder small 3 1 (ofSigned small (negℤ (pos 3))) with12) ∷ [])

@@ -10,10 +10,12 @@ use lib.Seq.{drop-cons, drop-drop, set-append-seam}
 use borrow.Rule.Slice.PartMut.{putMid, midOf}
 use Rattle.algebra.specs.Lists.{over, none, one}
 use Rattle.algebra.proofs.Lists.{over-then, length-over}
-use Rattle.model.specs.Steps.{Row, Step}
-use Rattle.model.specs.Costs.{Cost, free, cost}
-use Rattle.model.specs.Script.{Command}
-use Rattle.model.specs.Run.{State, noRow, register, written, pay, put, marked, made, finish}
+use Rattle.model.specs.Steps.{Row, byRows, Step}
+use Rattle.model.specs.Costs.{Cost, costBy, cost}
+use Rattle.model.specs.Script.{Command, END}
+use Rattle.model.specs.Commands.{command}
+use Rattle.model.specs.Run.{State, noRow, register, written, pay, marked, perform, finish}
+use Rattle.model.proofs.StepLaws.{Puts, finish-put}
 use Rattle.model.proofs.Taking.{Took, took-nothing}
 use Rattle.model.proofs.Written.{length-written, written-append}
 use Rattle.sheet.specs.declared.frame.Frame.{Frame}
@@ -32,11 +34,15 @@ abbrev pub putState : Cost → ℕ → State → Step → State
 putState c d x st =
     record {
       spent = pay c (x .spent);
-      registers = put d x st .registers;
-      deal = put d x st .deal;
-      opened = put d x st .opened;
-      shown = put d x st .shown;
+      registers = set (x .registers) d (st .left);
+      deal = st .deal;
+      opened = x .opened ++ st .opened;
+      shown = x .shown;
     }
+
+-- a row that is made without an opening, as a step
+abbrev pub made : State → Row → Step
+made x row = record { left = row; opened = []; deal = x .deal }
 
 module _ {s : List ℕ} {f : Frame} {log₀ shown₀ : List ℕ} {t : Table} {log shown : List ℕ} {x : State} where
   -- the buffers keep their lengths
@@ -56,7 +62,7 @@ module _ {s : List ℕ} {f : Frame} {log₀ shown₀ : List ℕ} {t : Table} {lo
       → length (st .left) ≡ 7 → Took (x .deal) m k o st → log′ ≡ over (written (f .n) (x .opened ++ st .opened)) log₀
       → (t .spent .openings + o) * f .n ≤ length log₀
       → Holds s f log₀ shown₀ (paid (putTable t d (st .left)) (countsOf (putCost d i m k o rs))) log′ shown (putState (putCost d i m k o rs) d x st)
-  unfolding pay put marked paid putTable
+  unfolding pay marked paid putTable
   holds-put d i m k o rs st log′ H h hn seven K e room =
       record {
         cells = length-put (t .cells) d (st .left) (omega (arith, H .cells)) seven ∙ H .cells;
@@ -94,14 +100,14 @@ over-set vs xs v h =
 
 -- END changes nothing
 pub holds-idle : {s : List ℕ} {f : Frame} {log₀ shown₀ : List ℕ} {t : Table} {log shown : List ℕ} {x : State} → Holds s f log₀ shown₀ t log shown x
-    → Holds s f log₀ shown₀ (paid t (countsOf (free [] []))) log shown
-    (record { spent = pay (free [] []) (x .spent); registers = x .registers; deal = x .deal; opened = x .opened; shown = x .shown })
-unfolding pay marked paid
-holds-idle {s} {f} {t = t} H =
-    record {
+    → Holds s f log₀ shown₀ (paid t (countsOf (cost (f .l) END))) log shown (finish (settingIn f) (inputsOf s f) END x)
+unfolding pay marked paid costBy finish perform command byRows
+holds-idle {s} {f} {t = t} {x = x} H =
+    rw (append-nil (x .opened), append-nil (x .shown))
+    (record {
       cells = H .cells;
       marks = H .marks;
-      spent = ap (pay (free [] [])) (H .spent);
+      spent = ap (pay (cost (f .l) END)) (H .spent);
       registers = H .registers;
       masks = H .masks ∙ ap (λ (k : ℕ). drop k (dealOf s f .masks)) (sym (add-zero (t .spent .masks)));
       triples = H .triples ∙ ap (λ (k : ℕ). drop k (dealOf s f .triples)) (sym (add-zero (t .spent .triples)));
@@ -111,7 +117,7 @@ holds-idle {s} {f} {t = t} H =
       revealed = H .revealed;
       values = H .values ∙ omega arith;
       space = omega (arith, H .space);
-    }
+    })
 
 -- REVEAL: the state after it, and that the table holds it
 abbrev pub revealCost : ℕ → Cost
@@ -180,7 +186,7 @@ module _ {s : List ℕ} {f : Frame} {log₀ shown₀ : List ℕ} {t : Table} {lo
 -- the whole of it
 pub performs-put : {s : List ℕ} {f : Frame} {t r : Table} {log log′ shown : List ℕ} (c : Command) (d i m k o : ℕ) (rs : List ℕ) (z : Row)
     (st : State → Step) → cost (f .l) c ≡ putCost d i m k o rs
-    → ((x : State) → finish (settingIn f) (inputsOf s f) c x ≡ putState (cost (f .l) c) d x (st x))
+    → ((x : State) → Puts (settingIn f) (inputsOf s f) c d x (st x))
     → d < 64 → f .n ≤ 7 → length z ≡ 7 → r ≡ putTable t d z
     → ((log₀ shown₀ : List ℕ) (x : State) → Holds s f log₀ shown₀ t log shown x → Left f log₀ t log′ x z m k o (st x))
     → Performs s f c t log shown r log′ shown
@@ -190,5 +196,5 @@ performs-put {s} {f} {t} {r} {log} {log′} {shown} c d i m k o rs z st ec ef hd
         → Holds s f log₀ shown₀ (paid r (countsOf (cost (f .l) c))) log′ shown (finish (settingIn f) (inputsOf s f) c x)
     keeps log₀ shown₀ x H =
         let A = L log₀ shown₀ x H in
-        rw (ef x, ec, er, A .left)
+        rw (finish-put (settingIn f) (inputsOf s f) c d x (st x) (ef x), ec, er, A .left)
         (holds-put d i m k o rs (st x) log′ H hd hn (rw (sym (A .left)) seven) (A .took) (A .log) (A .room))

@@ -10,14 +10,15 @@ use lib.Seq.{take-all}
 use lib.Pow.{pow-mono}
 use borrow.Rule.Slice.PartMut.{putMid, midOf}
 use Rattle.algebra.specs.Lists.{over, first}
-use Rattle.model.specs.Script.{Command, MUL, REVEAL, BITLT, register}
-use Rattle.model.specs.Costs.{cost}
+use Rattle.model.specs.Script.{Command, MUL, REVEAL, BITLT}
+use Rattle.model.specs.Costs.{costBy, cost}
 use Rattle.model.specs.Sheet.{rowsAt, triplesFrom}
 use Rattle.model.specs.Bytes.{sevens}
 use Rattle.model.specs.Sharing.{secret}
-use Rattle.model.specs.Steps.{Setting, Row, Deal, Step, value, comparison}
+use Rattle.model.specs.Steps.{Setting, Row, Deal, value, byRows, Step, comparison}
+use Rattle.model.specs.Commands.{registersFrom, command}
 use Rattle.model.specs.Run as Run
-use Rattle.model.proofs.Acceptance.{wider}
+use Rattle.model.proofs.StepLaws.{Puts}
 use Rattle.model.proofs.Taking.{Took, took-comparison}
 use Rattle.steps.specs.Masked.{MaskedRoom, MaskedLeaves}
 use Rattle.steps.proofs.Following.{triples-drop}
@@ -28,7 +29,7 @@ use Rattle.script.proofs.InRange.{WithK, WithM, ranges}
 use Rattle.machine.specs.declared.table.Table.{Table}
 use Rattle.machine.specs.Tables.{registerIn, putTable, countsOf, paid}
 use Rattle.machine.specs.Holding.{Holds, Ready, Performs, inputsOf, maskPlace, triplePlace, logPlace}
-use Rattle.machine.proofs.Keeping.{Left, putCost, putState, opened-left, register-is, holds-reveal, performs-put}
+use Rattle.machine.proofs.Keeping.{Left, putCost, opened-left, register-is, holds-reveal, performs-put}
 use Rattle.machine.proofs.Registers.{from-sevens}
 use Rattle.machine.proofs.Places.{n-most, t-most, l-most, field-of, mask-fits, triples-fit, mask-at}
 
@@ -76,7 +77,7 @@ module _ {s : List ℕ} {f : Frame} {log : ℕ} {t : Table} (F : Framed s f) whe
         m-most = most;
         k-most = omega (arith, W .k-most, K .k-most);
         power = let q : 2 ^ k ≤ 2 ^ f .largest = pow-mono {i = k} {j = f .largest} (W .k-most) in omega (arith, K .range-fits);
-        m-within = omega (arith, W .k-most, wider K);
+        m-within = omega (arith, W .k-most, K .k-is);
         masks = hm;
         triples = ht;
         mask-room = mask-fits F (t .spent .masks) hm;
@@ -140,7 +141,7 @@ pub record MulReady (s : List ℕ) (f : Frame) (log : ℕ) (t : Table) (d a b : 
   pub spends : Spending s f log t 1
 
 pub mul-ready : {s : List ℕ} {f : Frame} {log : ℕ} {t : Table} {d a b : ℕ} → Ready s f log (MUL d a b) t → MulReady s f log t d a b
-unfolding cost
+unfolding costBy
 mul-ready {f = f} {d = d} {a} {b} R =
     let W = ranges (f .p) (f .largest) (MUL d a b) (R .ranged) in
     record { d-in = W .d-in; a-in = W .a-in; b-in = W .b-in; spends = spending 1 (R .framed) (R .triples) (R .room) }
@@ -153,7 +154,7 @@ pub record CompareReady (s : List ℕ) (f : Frame) (log : ℕ) (t : Table) (d b 
   pub spends : Spending s f log t (w - 1)
 
 pub compare-ready : {s : List ℕ} {f : Frame} {log : ℕ} {t : Table} {d b w v : ℕ} → Ready s f log (BITLT d b w v) t → CompareReady s f log t d b w
-unfolding cost
+unfolding costBy
 compare-ready {f = f} {d = d} {b} {w} {v} R =
     let W = ranges (f .p) (f .largest) (BITLT d b w v) (R .ranged) in
     record { d-in = W .d-in; w-least = W .w-least; w-most = W .w-most; last-in = W .bits-in; spends = spending (w - 1) (R .framed) (R .triples) (R .room) }
@@ -164,35 +165,35 @@ pub record RevealReady (f : Frame) (log : ℕ) (t : Table) (a : ℕ) : Type 0 wh
   pub room : (t .spent .openings + 1) * f .n ≤ log
 
 pub reveal-ready : {s : List ℕ} {f : Frame} {log : ℕ} {t : Table} {a : ℕ} → Ready s f log (REVEAL a) t → RevealReady f log t a
-unfolding cost
+unfolding costBy
 reveal-ready {f = f} {a = a} R = record { a-in = ranges (f .p) (f .largest) (REVEAL a) (R .ranged); log-room = omega (arith, R .room); room = R .room }
 
 -- BITLT's bits are the registers' rows
 module _ {s : List ℕ} {f : Frame} {log₀ shown₀ : List ℕ} {t : Table} {log shown : List ℕ} {x : Run.State} where
   pub bits-are : Holds s f log₀ shown₀ t log shown x → (b w : ℕ) → b + w ≤ 64
-      → sevens w (take (448 - 7 * b) (drop (7 * b) (t .cells))) ≡ Run.registersFrom x b w
+      → sevens w (take (448 - 7 * b) (drop (7 * b) (t .cells))) ≡ registersFrom Run.noRow (x .registers) b w
   bits-are H b w h =
       let all : take (448 - 7 * b) (drop (7 * b) (t .cells)) ≡ drop (7 * b) (t .cells) =
       take-all (448 - 7 * b) (drop (7 * b) (t .cells)) (rw (length-drop (7 * b) (t .cells), H .cells) (omega arith)) in
-      rw all (from-sevens x (t .cells) b w (H .registers) h)
+      rw all (from-sevens (x .registers) (t .cells) b w (H .registers) h)
 
-length-registers : (x : Run.State) (b w : ℕ) → length (Run.registersFrom x b w) ≡ w
-unfolding Run.registersFrom
-length-registers x b zero = refl
-length-registers x b (suc w) = ap suc (length-registers x (suc b) w)
+length-registers : (g : List Row) (b w : ℕ) → length (registersFrom Run.noRow g b w) ≡ w
+unfolding registersFrom
+length-registers g b zero = refl
+length-registers g b (suc w) = ap suc (length-registers g (suc b) w)
 
-pub took-bits : (S : Setting) → S .n ≤ 7 → (v b w : ℕ) (x : Run.State)
-    → Took (x .deal) 0 (w - 1) (2 * (w - 1)) (comparison S v (Run.registersFrom x b w) (x .deal))
-took-bits S h v b w x =
-    subst (λ (c : ℕ). Took (x .deal) 0 (c - 1) (2 * (c - 1)) (comparison S v (Run.registersFrom x b w) (x .deal))) (length-registers x b w)
-    (took-comparison S h v (Run.registersFrom x b w) (x .deal))
+pub took-bits : (S : Setting) → S .n ≤ 7 → (v b w : ℕ) (g : List Row) (d : Deal)
+    → Took d 0 (w - 1) (2 * (w - 1)) (comparison S v (registersFrom Run.noRow g b w) d)
+took-bits S h v b w g d =
+    subst (λ (c : ℕ). Took d 0 (c - 1) (2 * (c - 1)) (comparison S v (registersFrom Run.noRow g b w) d)) (length-registers g b w)
+    (took-comparison S h v (registersFrom Run.noRow g b w) d)
 
 pub revealed-holds : {s : List ℕ} {f : Frame} {log₀ shown₀ : List ℕ} {t : Table} {log shown : List ℕ} {x : Run.State} {a v at : ℕ} {row : Row} {last : List ℕ}
     → Holds s f log₀ shown₀ t log shown x → f .n ≤ 7 → length row ≡ 7 → a < 64 → row ≡ registerIn t a → v ≡ secret (f .p) (f .t) row → at ≡ logPlace f t
     → last ≡ over (take (f .n) row) (midOf at (length log - at) log) → (t .spent .openings + 1) * f .n ≤ length log → t .spent .revealed < length shown
     → Holds s f log₀ shown₀ (paid t (countsOf (cost (f .l) (REVEAL a)))) (putMid at (length log - at) log last) (set shown (t .spent .revealed) v)
     (Run.finish (settingIn f) (inputsOf s f) (REVEAL a) x)
-unfolding cost Run.finish Run.perform value
+unfolding costBy Run.finish Run.perform command byRows value
 revealed-holds {f = f} {x = x} {a} {v} {at} {row} {last} H hn seven ha er ev ea el room space =
     let e : row ≡ Run.register x a = er ∙ register-is H a ha in
     let ev′ : v ≡ secret (f .p) (f .t) (Run.register x a) = ev ∙ ap (secret (f .p) (f .t)) e in
@@ -226,18 +227,20 @@ module _ {s : List ℕ} {f : Frame} {log : ℕ} {t : Table} {d a k m mask i at :
   )
 
 -- A masked command, whose step is given with what it takes and opens and with what the code's call ensures of it.
-pub masked-performs : {s : List ℕ} {f : Frame} {t r : Table} {log shown last : List ℕ} {d a k m mask i at : ℕ} {y z : Row} (c : Command) (step : Row → Deal → Step)
-    → Framed s f → Masked s f (length log) t d a k m → cost (f .l) c ≡ putCost d 0 1 (f .l + 2 * m - 2) (1 + 2 * (f .l + 2 * m - 2)) (a ∷ [])
-    → ((x : Run.State) → Run.finish (settingIn f) (inputsOf s f) c x ≡ putState (cost (f .l) c) d x (step (Run.register x a) (x .deal)))
-    → ((w : Row) (e : Deal) → length (first [] (e .masks)) ≡ f .l → Took e 1 (f .l + 2 * m - 2) (1 + 2 * (f .l + 2 * m - 2)) (step w e))
+pub masked-performs : {s : List ℕ} {f : Frame} {t r : Table} {log shown last : List ℕ} {d a k m mask i at : ℕ} {y z : Row} {c : Command} {step : Row → Deal → Step}
+    → Ready s f (length log) c t → Masked s f (length log) t d a k m → cost (f .l) c ≡ putCost d 0 1 (f .l + 2 * m - 2) (1 + 2 * (f .l + 2 * m - 2)) (a ∷ [])
+    → ((x : Run.State) → Puts (settingIn f) (inputsOf s f) c d x (step (Run.register x a) (x .deal)))
+    → (f .n ≤ 7 → (w : Row) (e : Deal) → 1 ≤ m → m ≤ f .l → length (first [] (e .masks)) ≡ f .l
+    → Took e 1 (f .l + 2 * m - 2) (1 + 2 * (f .l + 2 * m - 2)) (step w e))
     → (mask ≡ maskPlace f t) × (i ≡ triplePlace f t) × (at ≡ logPlace f t) → y ≡ registerIn t a
     → MaskedLeaves (f .p) (f .l) (f .n) (f .t) m mask i s (step y) z (midOf at (length log - at) log) last
     → length z ≡ 7 → r ≡ putTable t d z → Performs s f c t log shown r (putMid at (length log - at) log last) shown
-masked-performs {f = f} {t} {d = d} {a} {m = m} {z = z} c step F M ec ef took N ey ens seven er =
-    performs-put c d 0 1 (f .l + 2 * m - 2) (1 + 2 * (f .l + 2 * m - 2)) (a ∷ []) z (λ x. step (Run.register x a) (x .deal)) ec ef (M .d-in) (n-most F) seven er
+masked-performs {f = f} {t} {d = d} {a} {m = m} {z = z} {c} {step} R M ec puts took N ey ens seven er =
+    performs-put c d 0 1 (f .l + 2 * m - 2) (1 + 2 * (f .l + 2 * m - 2)) (a ∷ []) z (λ x. step (Run.register x a) (x .deal)) ec puts (M .d-in)
+    (n-most (R .framed)) seven er
     (λ log₀ shown₀ x H.
     step-left H
     (ens (f .triples - t .spent .triples) (x .deal) (next-mask H (M .masks) (N .0)) (next-triples H (omega (arith, M .triples)) (N .1))
     (omega (arith, M .triples, M .m-least)))
-    (took (Run.register x a) (x .deal) (mask-length H (M .masks))) (N .2) (M .room)
+    (took (n-most (R .framed)) (Run.register x a) (x .deal) (M .m-least) (M .m-within) (mask-length H (M .masks))) (N .2) (M .room)
     (ap (λ (w : Row). step w (x .deal)) (ey ∙ register-is H a (M .a-in))))

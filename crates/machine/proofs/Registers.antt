@@ -10,7 +10,8 @@ use lib.ListN.{length, getD, set, take, drop, length-append, length-drop}
 use lib.Seq.{paste, paste-zero, paste-suc, length-take-le, take-all, take-at, drop-at, drop-drop, drop-append-le, take-append-le, take-take, take-nil}
 use Rattle.model.specs.Bytes.{sevens}
 use Rattle.model.specs.Steps.{Row}
-use Rattle.model.specs.Run.{State, noRow, register, registersFrom}
+use Rattle.model.specs.Commands.{registersFrom}
+use Rattle.model.specs.Run.{noRow}
 use Rattle.machine.specs.declared.table.Table.{Table}
 use Rattle.machine.specs.Tables.{putTable}
 
@@ -62,14 +63,13 @@ set-seven (suc w) cells (suc d) x h k e =
     rw (first, others, set-seven w (drop 7 cells) d x (omega arith) (rw (length-drop 7 cells) (omega arith)) e)
 
 -- the rows of registers b to b + w - 1
-pub from-sevens : (st : State) (cells : List ℕ) (b w : ℕ) → sevens 64 cells ≡ st .registers → b + w ≤ 64
-    → sevens w (drop (7 * b) cells) ≡ registersFrom st b w
+pub from-sevens : (g : List Row) (cells : List ℕ) (b w : ℕ) → sevens 64 cells ≡ g → b + w ≤ 64 → sevens w (drop (7 * b) cells) ≡ registersFrom noRow g b w
 unfolding sevens registersFrom
-from-sevens st cells b zero e h = refl
-from-sevens st cells b (suc w) e h =
+from-sevens g cells b zero e h = refl
+from-sevens g cells b (suc w) e h =
     let k : 7 * b + 7 ≡ 7 * suc b = omega arith in
-    let r : take 7 (drop (7 * b) cells) ≡ register st b = sym (get-seven 64 cells b (omega arith)) ∙ ap (λ (v : List Row). getD v b noRow) e in
-    rw (drop-drop 7 (7 * b) cells, k, from-sevens st cells (suc b) w e (omega arith), r)
+    let r : take 7 (drop (7 * b) cells) ≡ getD g b noRow = sym (get-seven 64 cells b (omega arith)) ∙ ap (λ (v : List Row). getD v b noRow) e in
+    rw (drop-drop 7 (7 * b) cells, k, from-sevens g cells (suc b) w e (omega arith), r)
 
 -- the loop that puts a row, cell by cell
 abbrev pub withCells : Table → List ℕ → Table

@@ -12,7 +12,8 @@ use Rattle.algebra.specs.Lists.{over}
 use Rattle.model.specs.Bytes.{sevens}
 use Rattle.model.specs.Costs.{cost}
 use Rattle.model.specs.Script.{Script, Line, accepted, refused, withLine, commandAt, sizeAt, numberAt, scriptStep, scriptFrom, scriptOf, inRanges}
-use Rattle.model.specs.Run.{State, Stop, check, finish, orElse, runLines, start, nothingSpent, written}
+use Rattle.model.specs.Run.{State, Stop, check, finish, orElse, start, nothingSpent, written}
+use Rattle.model.proofs.StepLaws.{run-end, run-line}
 use Rattle.sheet.specs.declared.frame.Frame.{Frame}
 use Rattle.sheet.specs.Framed.{settingIn}
 use Rattle.script.specs.declared.command.Command.{Command}
@@ -88,8 +89,7 @@ line-stop : (s : List ℕ) (f : Frame) (log shown : ℕ) (x : Line) (rest : Scri
     → stopFrom s f log shown (withLine x rest) st
     ≡ orElse (check (supplyIn f log shown) (cost (f .l) (x .command)) (st .spent)) (x .place) st
     (stopFrom s f log shown rest (finish (settingIn f) (inputsOf s f) (x .command) st))
-unfolding runLines
-line-stop s f log shown x (accepted xs end) st A = refl
+line-stop s f log shown x (accepted xs end) st A = run-line (settingIn f) (supplyIn f log shown) (inputsOf s f) end x xs st
 line-stop s f log shown x (refused number place) st A = absurd (not-both (A .is))
 
 module _ (s script : List ℕ) (f : Frame) (log₀ shown₀ : List ℕ) where
@@ -159,10 +159,11 @@ module _ (s script : List ℕ) (f : Frame) (log₀ shown₀ : List ℕ) where
 
       module _ {b : Bool} (g : b ≡ isEnd (meant c)) where
         pub at-end : b ≡ true → Stopped s f log₀ shown₀ whole (record { number = 0; place = at; table = t }) log shown
-        unfolding runLines
         at-end q =
             let a = script-ends-well (f .p) (f .largest) script (suc (length script)) at (omega arith) (here .number-is) (end-is (f .p) (f .largest) script at here g ∙ q) (accepted-number (G .accepts)) in
-            let w : record { number = 0; place = at; state = G .state } ≡ whole = ap (λ (v : Script). stops v (G .state)) (sym a) ∙ G .run in
+            let w : record { number = 0; place = at; state = G .state } ≡ whole =
+            sym (run-end (settingIn f) (supplyIn f (length log₀) (length shown₀)) (inputsOf s f) at (G .state))
+            ∙ ap (λ (v : Script). stops v (G .state)) (sym a) ∙ G .run in
             record { number = ap (λ (v : Stop). v .number) w; place = ap (λ (v : Stop). v .place) w; holds = subst (λ (v : Stop). Holds s f log₀ shown₀ t log shown (v .state)) w (G .holds) }
 
         module _ (q : b ≡ false) where

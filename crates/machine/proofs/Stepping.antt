@@ -7,9 +7,9 @@ use native.Mathlib.Nat.{mul-le-mul}
 use native.Mathlib.Omega.{arith}
 use lib.Dec.{T}
 use Rattle.model.specs.Script.{Command, END, LOAD, CONST, ADD, SUB, SCALE, MUL, MOD, TRUNC, LTZ, OVER, BLOCKS, REVEAL, BITLT, inRanges}
-use Rattle.model.specs.Costs.{cost}
+use Rattle.model.specs.Costs.{costBy, cost}
 use Rattle.model.specs.Run.{check}
-use Rattle.model.proofs.Held.{check-passed}
+use Rattle.model.proofs.Checks.{check-passed}
 use Rattle.sheet.specs.declared.frame.Frame.{Frame}
 use Rattle.sheet.specs.Framed.{Framed}
 use Rattle.script.proofs.InRange.{ranges}
@@ -24,7 +24,7 @@ module _ (p K l : ℕ) (hl : l ≤ 31) (hK : K ≤ 30) where
   many m h = omega arith
 
   pub few : (c : Command) → T (inRanges p K c) → cost l c .openings ≤ 1000
-  unfolding cost
+  unfolding costBy
   few END t = omega arith
   few (LOAD d) t = omega arith
   few (CONST d v) t = omega arith

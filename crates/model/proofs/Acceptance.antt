@@ -1,20 +1,18 @@
 -- What is known of a sheet and a script that are not refused.
 -- Assumes nothing.
-use mathlib.Core.Path.{_≡_, refl, sym, subst, _∙_}
+use mathlib.Core.Path.{_≡_, refl, sym, ap, subst, _∙_}
 use mathlib.Core.Logic.{_≢_}
 use mathlib.Core.Bool.{Bool, true, false, _&&_, cond}
 use mathlib.Core.List.{List, [], _∷_, _++_, List·Memᴰ as In, List·Memᴰ·head as here, List·Memᴰ·tail as there}
 use Prim.Native.Nat.{ℕ, zero, suc, _+_, _≤_, _<_}
-use native.Mathlib.Decide.{decLt}
 use native.Mathlib.Omega.{arith}
 use borrow.Author.Tests.{ne-eqb, eqb-false}
 use lib.Dec.{T, ltb, leb, eqb, ltb→lt, eqb→eq}
 use lib.ListN.{length, getD}
-use lib.Pow.{pow-mono}
 use Rattle.algebra.specs.Lists.{All, none, one, allBelow}
 use Rattle.algebra.proofs.Lists.{all-below}
 use Rattle.algebra.proofs.Tests.{and-left, and-right, is-true, every, every-at}
-use Rattle.model.specs.Fields.{Field, Parties, modulus, bits, largestK, parties}
+use Rattle.model.specs.Fields.{Parties, modulus, bits, largestK, parties}
 use Rattle.model.specs.Sharing.{Sharing}
 use Rattle.model.specs.Steps.{Setting, Row, Triple}
 use Rattle.model.specs.Script.{Command, END, isEnd, Line, Script, accepted, refused, commandsAt, commandAt, sizeAt, inRanges, numberAt, withLine, scriptStep, scriptFrom, scriptOf}
@@ -23,9 +21,10 @@ use Rattle.model.specs.Run.{supplyOf}
 use Rattle.model.proofs.Fields.{fields, parties-facts}
 use Rattle.model.proofs.Entries.{passed}
 use Rattle.model.proofs.Sharings.{test-exact}
-use Rattle.model.proofs.Shared.{TripleOk}
-use Rattle.model.proofs.Masked.{MaskOk}
-use Rattle.model.proofs.Running.{Given, length-secrets}
+use Rattle.model.proofs.Bits.{bitsOf, bits-spell}
+use Rattle.model.proofs.Shared.{TripleOk, length-secrets, shareds-secrets}
+use Rattle.model.proofs.Determined.{MaskOk}
+use Rattle.model.proofs.Held.{Given}
 use Rattle.model.proofs.SheetDeal.{shape-in}
 use Rattle.model.proofs.Refusals.{told}
 
@@ -88,35 +87,30 @@ sound s e =
     }
 
 -- masks and triples by their rows
+mask-ok : (S : Setting) (m : List Row) → All (Sharing (S .p) (S .n) (S .t)) m → T (goodMask S m) → length m ≡ S .l → MaskOk S (S .p) m
+unfolding goodMask
+mask-ok S m r g l =
+    let bits = all-below 2 (secrets S m) .0 (and-left (allBelow 2 (secrets S m)) _ g) in
+    let e : bitsOf (S .l) (spell (secrets S m)) ≡ secrets S m =
+    ap (λ (w : ℕ). bitsOf w (spell (secrets S m))) (sym l ∙ sym (length-secrets S m)) ∙ bits-spell (secrets S m) bits in
+    record {
+      r = spell (secrets S m);
+      small = ltb→lt (spell (secrets S m)) (S .p) (and-right (allBelow 2 (secrets S m)) _ g);
+      shareds = rw e (shareds-secrets r);
+    }
+
 pub masks-ok : (S : Setting) (ms : List (List Row)) → All (Sharing (S .p) (S .n) (S .t)) (maskRows ms) → All (λ m. T (goodMask S m)) ms
-    → ((m : List Row) → In m ms → length m ≡ S .l) → All (MaskOk S) ms
-unfolding maskRows goodMask
+    → ((m : List Row) → In m ms → length m ≡ S .l) → All (MaskOk S (S .p)) ms
+unfolding maskRows
 masks-ok S [] r g l = none
 masks-ok S (m ∷ ms) r (one g gs) l =
-    one
-    (record {
-      sharings = all-left m (maskRows ms) r;
-      masking =
-          record {
-            bits = all-below 2 (secrets S m) .0 (and-left (allBelow 2 (secrets S m)) _ g);
-            count = length-secrets S m ∙ l m (here refl);
-            below = ltb→lt (spell (secrets S m)) (S .p) (and-right (allBelow 2 (secrets S m)) _ g);
-          };
-    })
-    (masks-ok S ms (all-right m (maskRows ms) r) gs (λ x i. l x (there i)))
+    one (mask-ok S m (all-left m (maskRows ms) r) g (l m (here refl))) (masks-ok S ms (all-right m (maskRows ms) r) gs (λ x i. l x (there i)))
 
 pub triples-ok : (S : Setting) (xs : List Triple) → All (Sharing (S .p) (S .n) (S .t)) (tripleRows xs) → All (λ x. T (goodTriple S x)) xs → All (TripleOk S) xs
 unfolding tripleRows goodTriple
 triples-ok S [] r g = none
 triples-ok S (x ∷ xs) (one a (one b (one c r))) (one g gs) =
     one (record { a-sharing = a; b-sharing = b; c-sharing = c; good = eqb→eq _ _ g }) (triples-ok S xs r gs)
-
-pub wider : {p l K : ℕ} → Field p l K → K < l
-wider {p} {l} {K} F = go (decLt K l)
-  where
-    go : Dec (K < l) → K < l
-    go (yes h) = h
-    go (no h) = absurd (omega (arith, pow-mono {i = l} {j = K} (omega arith), F .bits-hold, F .range-fits))
 
 -- a sheet that is not refused gives its run what the run is worked with
 pub given : (s : List ℕ) → Sound s → (log shown : ℕ)
@@ -129,12 +123,15 @@ given s Q log shown =
     record {
       field = fields (h .field) (Q .field);
       parties = Q .people;
-      wide = wider (fields (h .field) (Q .field));
       inputs-ok = all-left (inputIn h s) (dealRows d) (Q .sharings);
       inputs-many = A .inputs;
-      masks-ok = masks-ok (settingOf h) (d .masks) (all-left (maskRows (d .masks)) (tripleRows (d .triples)) rows) (Q .masks) (A .each);
-      masks-many = A .masks;
-      triples-ok = triples-ok (settingOf h) (d .triples) (all-right (maskRows (d .masks)) (tripleRows (d .triples)) rows) (Q .triples);
+      formed =
+          record {
+            masks-ok = masks-ok (settingOf h) (d .masks) (all-left (maskRows (d .masks)) (tripleRows (d .triples)) rows) (Q .masks) (A .each);
+            masks-many = A .masks;
+            triples-ok = triples-ok (settingOf h) (d .triples) (all-right (maskRows (d .masks)) (tripleRows (d .triples)) rows) (Q .triples);
+            triples-many = A .triples;
+          };
     }
 
 -- the commands of an accepted script are in range

@@ -7,16 +7,17 @@ use native.Mathlib.Omega.{arith}
 use lib.ListN.{length}
 use Rattle.model.specs.Steps.{Setting, Row, Deal}
 use Rattle.model.specs.Script.{Command, END, LOAD, CONST, ADD, SUB, SCALE, MUL, MOD, TRUNC, LTZ, OVER, BLOCKS, REVEAL, BITLT, Line, Script, accepted, refused}
-use Rattle.model.specs.Costs.{cost}
+use Rattle.model.specs.Costs.{costBy, cost}
 use Rattle.model.specs.Sheet.{headerOf, sheetNumber}
 use Rattle.model.specs.Run.{Spent, State, Stop, Supply, check, pay, finish, nothingSpent, start, orElse, runLines, runScript, sheetScript, stopOf, outcome, run}
 use Rattle.model.specs.Exactness.{Balance}
+use Rattle.model.proofs.StepLaws.{run-end, run-line}
 
 abbrev pub Balanced : Spent → Type 0
 Balanced s = s .openings ≡ s .masks + 2 * s .triples + s .revealed
 
 pub openings-are : (l : ℕ) (c : Command) → cost l c .openings ≡ cost l c .masks + 2 * cost l c .triples + cost l c .revealed
-unfolding cost
+unfolding costBy
 openings-are l END = refl
 openings-are l (LOAD d) = refl
 openings-are l (CONST d v) = refl
@@ -45,11 +46,12 @@ or-else zero place s x e f = f
 or-else (suc number) place s x e f = e
 
 lines : (S : Setting) (u : Supply) (input : List Row) (end : ℕ) (xs : List Line) (s : State) → Balanced (s .spent) → Balanced (runLines S u input end xs s .state .spent)
-unfolding runLines finish
-lines S u input end [] s e = e
+unfolding finish
+lines S u input end [] s e = rw (run-end S u input end s) e
 lines S u input end (x ∷ xs) s e =
-    or-else (check u (cost (S .l) (x .command)) (s .spent)) (x .place) s _ e
-    (lines S u input end xs (finish S input (x .command) s) (balanced-more (S .l) (x .command) (s .spent) e))
+    rw (run-line S u input end x xs s)
+    (or-else (check u (cost (S .l) (x .command)) (s .spent)) (x .place) s _ e
+    (lines S u input end xs (finish S input (x .command) s) (balanced-more (S .l) (x .command) (s .spent) e)))
 
 pub balance : Balance
 unfolding run outcome stopOf runScript

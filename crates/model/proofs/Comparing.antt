@@ -13,7 +13,7 @@ use Rattle.algebra.specs.Ring.{add, mul}
 use Rattle.algebra.specs.Lists.{Below}
 use Rattle.algebra.proofs.Ring.{sub-up}
 use Rattle.algebra.proofs.Lists.{below-head, below-tail}
-use Rattle.model.specs.Steps.{odd}
+use Rattle.model.specs.Trees.{odd}
 use Rattle.model.specs.Sheet.{spell}
 use Rattle.model.specs.Plain.{lessStep, lessFrom, less}
 use Rattle.model.specs.Formulas.{one}

@@ -15,12 +15,15 @@ use Rattle.model.specs.Run.{Supply, State, check, pay, finish, nothingSp
 use Rattle.model.specs.Plain.{plainly, reveals}
 use Rattle.model.specs.Results.{Does}
 use Rattle.model.specs.Exactness.{Passes, begins, goes, Right, sumOf, Counted, at-end, at-line, Stopped, Exactness}
+use Rattle.model.proofs.Each.{each-length}
 use Rattle.model.proofs.Written.{length-written}
 use Rattle.model.proofs.Sharings.{length-sharing}
-use Rattle.model.proofs.Held.{Holds, holds-start, Passed, check-passed}
-use Rattle.model.proofs.Running.{Given, finish-holds}
+use Rattle.model.proofs.StepLaws.{run-end, run-line}
+use Rattle.model.proofs.Checks.{Passed, check-passed}
+use Rattle.model.proofs.Courses.{shareds-at}
+use Rattle.model.proofs.Held.{Holds, holds-start, Given, none-shared, finished}
 use Rattle.model.proofs.Balance.{Balanced, balanced-start, balanced-more}
-use Rattle.model.proofs.Performed.{reveals-more, does}
+use Rattle.model.proofs.Performed.{does}
 use Rattle.model.proofs.Acceptance.{sound, all-map, given, InRange, lines-ok, lines-go-on}
 
 all-head : {A : Type 0} {P : A → Type 0} {x : A} {xs : List A} → All P (x ∷ xs) → P x
@@ -56,7 +59,7 @@ module _ {S : Setting} {K : ℕ} {u : Supply} {input : List Row} {d : Deal} (G :
   unfolding start nothingSpent sumOf
   known-start =
       record {
-        holds = holds-start S d;
+        holds = holds-start S (none-shared G) d;
         shown = refl;
         balance = balanced-start d;
         ranges = ok;
@@ -70,17 +73,17 @@ module _ {S : Setting} {K : ℕ} {u : Supply} {input : List Row} {d : Deal} (G :
         revealed = refl;
       }
 
-  passed : {x : Line} {ys : List Line} {s : State} {vs ws : List ℕ} → Known (x ∷ ys) s vs ws → check u (cost (S .l) (x .command)) (s .spent) ≡ 0
-      → Passed u (cost (S .l) (x .command)) (s .spent)
-  passed {x} {s = s} q e = check-passed u (cost (S .l) (x .command)) (s .spent) e
+  passed : (x : Line) (s : State) → check u (cost (S .l) (x .command)) (s .spent) ≡ 0 → Passed u (cost (S .l) (x .command)) (s .spent)
+  passed x s e = check-passed u (cost (S .l) (x .command)) (s .spent) e
 
   known-more : {x : Line} {ys : List Line} {s : State} {vs ws : List ℕ} → Known (x ∷ ys) s vs ws → check u (cost (S .l) (x .command)) (s .spent) ≡ 0
       → Known ys (finish S input (x .command) s) (plainly (S .p) (secrets S input) (s .spent .inputs) (x .command) vs) (ws ++ reveals (x .command) vs)
   unfolding finish pay
   known-more {x} {ys} {s} {vs} {ws} q e =
+      let done = finished G s vs (q .holds) (x .command) (all-head (q .ranges)) (passed x s e) in
       record {
-        holds = finish-holds G s vs (q .holds) (x .command) (all-head (q .ranges)) (passed q e);
-        shown = reveals-more G s vs (q .holds) (x .command) (passed q e) ∙ ap (λ zs. zs ++ reveals (x .command) vs) (q .shown);
+        holds = done .holds;
+        shown = done .shown ∙ ap (λ zs. zs ++ reveals (x .command) vs) (q .shown);
         balance = balanced-more (S .l) (x .command) (s .spent) (q .balance);
         ranges = all-tail (q .ranges);
         commands = all-tail (q .commands);
@@ -101,18 +104,19 @@ module _ {S : Setting} {K : ℕ} {u : Supply} {input : List Row} {d : Deal} (G :
       → check u (cost (S .l) (y .command)) (s .spent) ≡ 0 → Does S K input (y .command) s (finish S input (y .command) s)
   next-does {y} {s = s} {vs} p e =
       let q = known p in
-      does G s vs (q .holds) (y .command) (all-head (q .ranges)) (all-head (q .commands)) (passed q e)
+      does G s vs (q .holds) (y .command) (all-head (q .ranges)) (all-head (q .commands)) (passed y s e)
 
   right : {ys : List Line} {s : State} {vs ws : List ℕ} → Passes S u input d xs ys s vs ws → Right S s vs ws
   right p =
       let q = known p in
-      let H = q .holds .held in
+      let H = q .holds in
+      let shares = shareds-at (none-shared G) (H .shareds) in
       record {
-        registers-64 = H .registers-64;
+        registers-64 = each-length (H .shareds) ∙ H .values-64;
         marks-64 = H .marks-64;
         values-64 = H .values-64;
-        sharing = λ r m. H .shared r m .sharing;
-        secret-is = λ r m. H .shared r m .is;
+        sharing = λ r m. shares r .sharing;
+        secret-is = λ r m. shares r .is;
         unset = H .unset;
         opened = q .holds .rows;
         shown = q .shown;
@@ -139,10 +143,9 @@ module _ {S : Setting} {K : ℕ} {u : Supply} {input : List Row} {d : Deal} (G :
 
   -- the run of the lines that are left stops in a state that it passes through
   stopped : (end : ℕ) (ys : List Line) {s : State} {vs ws : List ℕ} → Passes S u input d xs ys s vs ws → Stopped S u input d xs end (runLines S u input end ys s)
-  unfolding runLines
-  stopped end [] p = record { left = []; plain = _; revealed = _; passes = p; stops = at-end refl refl }
+  stopped end [] {s} p = rw (run-end S u input end s) (record { left = []; plain = _; revealed = _; passes = p; stops = at-end refl refl })
   stopped end (y ∷ ys) {s} p =
-      either (check u (cost (S .l) (y .command)) (s .spent)) refl (λ e. stopped end ys (goes p e))
+      rw (run-line S u input end y ys s) (either (check u (cost (S .l) (y .command)) (s .spent)) refl (λ e. stopped end ys (goes p e)))
     where
       either : (k : ℕ) → k ≡ check u (cost (S .l) (y .command)) (s .spent)
           → (check u (cost (S .l) (y .command)) (s .spent) ≡ 0 → Stopped S u input d xs end (runLines S u input end ys (finish S input (y .command) s)))

@@ -1,59 +1,43 @@
 -- What holds of a run's state: registers share the plain values, what was opened are sharings, and the deal, the record and the revealed list are
--- spent as counted.
+-- spent as counted. Each finished command keeps it.
 -- Assumes nothing.
-use mathlib.Core.Path.{_≡_, refl, sym, _∙_}
-use mathlib.Core.Bool.{Bool, true, false}
-use mathlib.Core.List.{List, [], _∷_, _++_}
-use Prim.Native.Nat.{ℕ, zero, suc, _+_, _*_, _≤_, _<_}
-use native.Mathlib.Decide.{ℕ-discrete}
+use mathlib.Core.Path.{_≡_, refl, sym, ap, _∙_}
+use mathlib.Core.Bool.{false}
+use mathlib.Core.List.{List, [], _++_, append-nil, List·Memᴰ as In}
+use Prim.Native.Nat.{ℕ, zero, suc, _+_, _-_, _<_}
+use native.Mathlib.Decide.{decLt}
 use native.Mathlib.Omega.{arith}
-use lib.Dec.{T, leb, leb→le}
-use lib.ListN.{length, getD, set, replicate, length-set, length-append}
-use lib.Seq.{getD-set-same, getD-set-other}
-use Rattle.algebra.specs.Lists.{All, none, one}
-use Rattle.algebra.proofs.Tests.{true-false}
+use lib.Dec.{T}
+use lib.ListN.{length, getD, replicate, length-append, length-drop, List·getD-eq-default}
+use Rattle.algebra.specs.Lists.{All, none}
+use Rattle.model.specs.Fields.{Field, Parties}
 use Rattle.model.specs.Sharing.{Sharing}
-use Rattle.model.specs.Steps.{Setting, Row, Deal, Step}
-use Rattle.model.specs.Costs.{Cost, free}
-use Rattle.model.specs.Run.{Spent, State, Supply, noRow, allSet, marked, check, pay, put, nothingSpent, start}
-use Rattle.model.proofs.Entries.{passed}
-use Rattle.model.proofs.Shared.{Shared, Worked}
-use Rattle.model.proofs.Taking.{Used, used-then, Took, all-append}
-
--- set registers share the plain values, and the others are 0
-pub record Held (S : Setting) (marks : List Bool) (registers : List Row) (vs : List ℕ) : Type 0 where
-  pub marks-64 : length marks ≡ 64
-  pub registers-64 : length registers ≡ 64
-  pub values-64 : length vs ≡ 64
-  pub shared : (r : ℕ) → getD marks r false ≡ true → Shared S (getD vs r 0) (getD registers r noRow)
-  pub unset : (r : ℕ) → getD marks r false ≡ false → getD registers r noRow ≡ noRow
-
-pub held-set : {S : Setting} {marks : List Bool} {registers : List Row} {vs : List ℕ} {d v : ℕ} {x : Row} → Held S marks registers vs → d < 64
-    → Shared S v x → Held S (set marks d true) (set registers d x) (set vs d v)
-held-set {S} {marks} {registers} {vs} {d} {v} {x} H h X =
-    record {
-      marks-64 = length-set marks d true ∙ H .marks-64;
-      registers-64 = length-set registers d x ∙ H .registers-64;
-      values-64 = length-set vs d v ∙ H .values-64;
-      shared = λ r. shares r (ℕ-discrete r d);
-      unset = λ r. zeros r (ℕ-discrete r d);
-    }
-  where
-    shares : (r : ℕ) → Dec (r ≡ d) → getD (set marks d true) r false ≡ true → Shared S (getD (set vs d v) r 0) (getD (set registers d x) r noRow)
-    shares r (yes e) m =
-        rw (e, getD-set-same vs d v 0 (omega (arith, H .values-64)), getD-set-same registers d x noRow (omega (arith, H .registers-64))) X
-    shares r (no e) m =
-        rw (getD-set-other vs d r v 0 e, getD-set-other registers d r x noRow e) (H .shared r (sym (getD-set-other marks d r true false e) ∙ m))
-
-    zeros : (r : ℕ) → Dec (r ≡ d) → getD (set marks d true) r false ≡ false → getD (set registers d x) r noRow ≡ noRow
-    zeros r (yes e) m =
-        let t : getD (set marks d true) r false ≡ true = rw (e, getD-set-same marks d true false (omega (arith, H .marks-64))) in
-        absurd (true-false (sym t ∙ m))
-    zeros r (no e) m = getD-set-other registers d r x noRow e ∙ H .unset r (sym (getD-set-other marks d r true false e) ∙ m)
+use Rattle.model.specs.Trees.{done}
+use Rattle.model.specs.Trees as Trees
+use Rattle.model.specs.Steps.{Setting, Row, Deal, Worked, rowOps, byRows}
+use Rattle.model.specs.Script.{Command, inRanges}
+use Rattle.model.specs.Costs.{modTriples, cost}
+use Rattle.model.specs.Sheet.{secrets}
+use Rattle.model.specs.Run.{State, Supply, noRow, rowCommand, pay, perform, finish, nothingSpent, start}
+use Rattle.model.specs.Plain.{plainly, reveals}
+use Rattle.model.specs.Results.{target}
+use Rattle.model.proofs.Each.{each-length, each-replicate}
+use Rattle.model.proofs.Shared.{Shared, Shareds, TripleOk, all-drop, shared-none, shareds-secrets}
+use Rattle.model.proofs.Taking.{Used, used-then, all-append}
+use Rattle.model.proofs.Determined.{d-done, MaskOk}
+use Rattle.model.proofs.Masked.{whole-field, remainder-determined}
+use Rattle.model.proofs.Checks.{Passed}
+use Rattle.model.proofs.Courses.{OthersStay, Course, course}
+use Rattle.model.proofs.Marks.{length-marked, unmarked, writes-target}
+use Rattle.model.proofs.Balance.{openings-are}
+use Rattle.model.proofs.Running.{Ran, ran}
 
 -- the whole of what holds of a state, where d is the deal that the run started with
 pub record Holds (S : Setting) (d : Deal) (s : State) (vs : List ℕ) : Type 0 where
-  pub held : Held S (s .spent .marks) (s .registers) vs
+  pub marks-64 : length (s .spent .marks) ≡ 64
+  pub values-64 : length vs ≡ 64
+  pub shareds : Shareds S vs (s .registers)
+  pub unset : (r : ℕ) → getD (s .spent .marks) r false ≡ false → getD (s .registers) r noRow ≡ noRow
   pub used : Used d (s .spent .masks) (s .spent .triples) (s .deal)
   pub opens : length (s .opened) ≡ s .spent .openings
   pub rows : All (Sharing (S .p) (S .n) (S .t)) (s .opened)
@@ -64,102 +48,116 @@ all-same zero r a = refl
 all-same (suc n) zero a = refl
 all-same (suc n) (suc r) a = all-same n r a
 
-pub holds-start : (S : Setting) (d : Deal) → Holds S d (start d) (replicate 64 0)
+pub holds-start : (S : Setting) → Shared S 0 noRow → (d : Deal) → Holds S d (start d) (replicate 64 0)
 unfolding start nothingSpent
-holds-start S d =
+holds-start S Z d =
     record {
-      held =
-          record {
-            marks-64 = refl;
-            registers-64 = refl;
-            values-64 = refl;
-            shared = λ r m. absurd (true-false (sym m ∙ all-same 64 r false));
-            unset = λ r m. all-same 64 r noRow;
-          };
+      marks-64 = refl;
+      values-64 = refl;
+      shareds = each-replicate 64 0 noRow Z;
+      unset = λ r m. all-same 64 r noRow;
       used = record { masks = refl; triples = refl };
       opens = refl;
       rows = none;
       shows = refl;
     }
 
--- a command that left a row in d
-pub holds-put : {S : Setting} {d₀ : Deal} {s : State} {vs : List ℕ} {d v m k o : ℕ} {x : Step} (i : ℕ) (rs : List ℕ) → Holds S d₀ s vs → d < 64
-    → Took (s .deal) m k o x → Worked S v x
-    → Holds S d₀
-    (record {
-      spent = pay (record { reads = rs; writes = d ∷ []; inputs = i; masks = m; triples = k; openings = o; revealed = 0 }) (s .spent);
-      registers = put d s x .registers;
-      deal = put d s x .deal;
-      opened = put d s x .opened;
-      shown = put d s x .shown;
-    })
-    (set vs d v)
-unfolding pay put marked
-holds-put i rs H h K X =
-    record {
-      held = held-set (H .held) h (X .left);
-      used = used-then (H .used) (K .used);
-      opens = rw length-append (omega (arith, H .opens, K .opens));
-      rows = all-append (H .rows) (X .opened);
-      shows = H .shows ∙ omega arith;
-    }
+-- a well-formed deal, as much as is supplied
+pub record Formed (S : Setting) (u : Supply) (d : Deal) : Type 0 where
+  pub masks-ok : All (MaskOk S (S .p)) (d .masks)
+  pub masks-many : length (d .masks) ≡ u .masks
+  pub triples-ok : All (TripleOk S) (d .triples)
+  pub triples-many : length (d .triples) ≡ u .triples
 
--- a command that does nothing, and one that opens a row and shows its value
-pub holds-idle : {S : Setting} {d₀ : Deal} {s : State} {vs : List ℕ} → Holds S d₀ s vs
-    → Holds S d₀ (record { spent = pay (free [] []) (s .spent); registers = s .registers; deal = s .deal; opened = s .opened; shown = s .shown }) vs
-unfolding pay marked
-holds-idle H =
-    record {
-      held = H .held;
-      used = used-then (H .used) (record { masks = refl; triples = refl });
-      opens = H .opens ∙ omega arith;
-      rows = H .rows;
-      shows = H .shows ∙ omega arith;
-    }
+-- what a run is worked with: well-formed input and deal, as much as is supplied
+pub record Given (S : Setting) (K : ℕ) (u : Supply) (input : List Row) (d : Deal) : Type 0 where
+  pub field : Field (S .p) (S .l) K
+  pub parties : Parties (S .n) (S .t)
+  pub inputs-ok : All (Sharing (S .p) (S .n) (S .t)) input
+  pub inputs-many : length input ≡ u .inputs
+  pub formed : Formed S u d
 
-pub holds-shown : {S : Setting} {d₀ : Deal} {s : State} {vs : List ℕ} (x : Row) (v a : ℕ) → Holds S d₀ s vs → Sharing (S .p) (S .n) (S .t) x
-    → Holds S d₀
-    (record {
-      spent = pay (record { reads = a ∷ []; writes = []; inputs = 0; masks = 0; triples = 0; openings = 1; revealed = 1 }) (s .spent);
-      registers = s .registers;
-      deal = s .deal;
-      opened = s .opened ++ (x ∷ []);
-      shown = s .shown ++ (v ∷ []);
-    })
-    vs
-unfolding pay marked
-holds-shown x v a H h =
-    record {
-      held = H .held;
-      used = used-then (H .used) (record { masks = refl; triples = refl });
-      opens = rw length-append (omega (arith, H .opens));
-      rows = all-append (H .rows) (one h none);
-      shows = rw length-append (omega (arith, H .shows));
-    }
+-- a finished command: what holds goes on holding, of the plain interpreter's values; the revealed list has its values more; other registers are kept
+pub record Finished (S : Setting) (d : Deal) (c : Command) (s s′ : State) (vs ws : List ℕ) : Type 0 where
+  pub holds : Holds S d s′ ws
+  pub shown : s′ .shown ≡ s .shown ++ reveals c vs
+  pub kept : (r : ℕ) → (In r (target c) → ⊥) → getD (s′ .registers) r noRow ≡ getD (s .registers) r noRow
 
--- what the checks let through
-pub record Passed (u : Supply) (c : Cost) (s : Spent) : Type 0 where
-  pub reads : T (allSet (s .marks) (c .reads))
-  pub inputs : s .inputs + c .inputs ≤ u .inputs
-  pub masks : s .masks + c .masks ≤ u .masks
-  pub triples : s .triples + c .triples ≤ u .triples
-  pub room : (s .openings + c .openings) * u .parties ≤ u .log
-  pub shown : s .revealed + c .revealed ≤ u .shown
+module _ {S : Setting} {K : ℕ} {u : Supply} {input : List Row} {d₀ : Deal} (G : Given S K u input d₀) where
+  pub none-shared : Shared S 0 noRow
+  none-shared = shared-none S (G .field .modulus-is) (G .parties)
 
-pub check-passed : (u : Supply) (c : Cost) (s : Spent) → check u c s ≡ 0 → Passed u c s
-unfolding check
-check-passed u c s e =
-    let a = passed (allSet (s .marks) (c .reads)) 20 _ e in
-    let b = passed (leb (s .inputs + c .inputs) (u .inputs)) 21 _ (a .1) in
-    let d = passed (leb (s .masks + c .masks) (u .masks)) 22 _ (b .1) in
-    let f = passed (leb (s .triples + c .triples) (u .triples)) 23 _ (d .1) in
-    let g = passed (leb ((s .openings + c .openings) * u .parties) (u .log)) 24 _ (f .1) in
-    let h = passed (leb (s .revealed + c .revealed) (u .shown)) 25 0 (g .1) in
-    record {
-      reads = a .0;
-      inputs = leb→le _ _ (b .0);
-      masks = leb→le _ _ (d .0);
-      triples = leb→le _ _ (f .0);
-      room = leb→le _ _ (g .0);
-      shown = leb→le _ _ (h .0);
-    }
+  -- what is left of the deal
+  masks-left : {s : State} {vs : List ℕ} → Holds S d₀ s vs → All (MaskOk S (S .p)) (s .deal .masks)
+  masks-left {s} H = rw (H .used .masks) (all-drop (s .spent .masks) (G .formed .masks-ok))
+
+  masks-count : {s : State} {vs : List ℕ} → Holds S d₀ s vs → length (s .deal .masks) ≡ u .masks - s .spent .masks
+  masks-count {s} H = ap length (H .used .masks) ∙ length-drop (s .spent .masks) (d₀ .masks) ∙ rw (G .formed .masks-many)
+
+  triples-left : {s : State} {vs : List ℕ} → Holds S d₀ s vs → All (TripleOk S) (s .deal .triples)
+  triples-left {s} H = rw (H .used .triples) (all-drop (s .spent .triples) (G .formed .triples-ok))
+
+  triples-count : {s : State} {vs : List ℕ} → Holds S d₀ s vs → length (s .deal .triples) ≡ u .triples - s .spent .triples
+  triples-count {s} H = ap length (H .used .triples) ∙ length-drop (s .spent .triples) (d₀ .triples) ∙ rw (G .formed .triples-many)
+
+  module _ (s : State) (vs : List ℕ) (H : Holds S d₀ s vs) (c : Command) (ok : T (inRanges (S .p) K c)) (Q : Passed u (cost (S .l) c) (s .spent)) where
+    abbrev values : List ℕ
+    values = plainly (S .p) (secrets S input) (s .spent .inputs) c vs
+
+    abbrev Left : List Row → Type 0
+    Left w = Shareds S values w × OthersStay (target c) (s .registers) w
+
+    C : Course S (S .p) (modTriples (S .l)) input (s .spent .inputs) c vs Left (Trees.remainder (S .p) (rowOps S))
+    C = course S (G .field .modulus-is) (G .parties) none-shared (shareds-secrets (G .inputs-ok)) (Trees.remainder (S .p) (rowOps S)) (remainder-determined S (G .field) (G .parties)) (s .spent .inputs) vs c ok
+
+    -- the command's tree, worked on the deal that is left
+    abbrev tree-worked : Worked (List Row)
+    tree-worked = byRows S (rowCommand S input (s .spent .inputs) c (s .registers) done) (s .deal)
+
+    command-ran : Ran S Left (C .numbers ++ []) (cost (S .l) c .triples + 0) (reveals c vs ++ []) (s .deal) tree-worked
+    command-ran =
+        ran S (whole-field (G .field)) (G .parties) (C .determined (s .registers) (H .shareds) done (λ w W. d-done W))
+        (masks-left H) (rw length-append (omega (arith, C .masks, Q .masks, masks-count H))) (triples-left H) (omega (arith, Q .triples, triples-count H))
+
+    -- the same, with what the command costs
+    masks-are : length (C .numbers ++ []) ≡ cost (S .l) c .masks
+    masks-are = rw length-append (omega (arith, C .masks))
+
+    values-are : length (reveals c vs ++ []) ≡ cost (S .l) c .revealed
+    values-are = rw length-append (omega (arith, C .values))
+
+    triples-are : cost (S .l) c .triples + 0 ≡ cost (S .l) c .triples
+    triples-are = omega arith
+
+    registers-64 : length (tree-worked .left) ≡ 64
+    registers-64 = command-ran .left .1 .many ∙ each-length (H .shareds) ∙ H .values-64
+
+    still-unset : (r : ℕ) → getD (pay (cost (S .l) c) (s .spent) .marks) r false ≡ false → getD (tree-worked .left) r noRow ≡ noRow
+    unfolding pay
+    still-unset r e = go (decLt r 64)
+      where
+        go : Dec (r < 64) → getD (tree-worked .left) r noRow ≡ noRow
+        go (yes l) =
+            let m = unmarked (s .spent .marks) (target c) r (rw (H .marks-64) l) (rw (writes-target (S .l) c) at e) in
+            command-ran .left .1 .others r (m .0) ∙ H .unset r (m .1)
+        go (no l) = List·getD-eq-default (tree-worked .left) noRow (omega (arith, registers-64))
+
+    pub finished : Finished S d₀ c s (finish S input c s) vs values
+    unfolding finish perform pay
+    finished =
+        let R = command-ran in
+        record {
+          holds =
+              record {
+                marks-64 = length-marked (s .spent .marks) (cost (S .l) c .writes) ∙ H .marks-64;
+                values-64 = sym (each-length (R .left .0)) ∙ registers-64;
+                shareds = R .left .0;
+                unset = still-unset;
+                used = rw (masks-are, triples-are) at (used-then (H .used) (R .used));
+                opens = rw length-append (omega (arith, H .opens, R .opened-many, masks-are, values-are, openings-are (S .l) c));
+                rows = all-append (H .rows) (R .opened);
+                shows = rw (length-append, R .shown) (omega (arith, H .shows, values-are));
+              };
+          shown = ap (λ (ws : List ℕ). s .shown ++ ws) (R .shown ∙ append-nil (reveals c vs));
+          kept = R .left .1 .others;
+        }

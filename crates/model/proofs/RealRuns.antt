@@ -65,7 +65,7 @@ module _ (s : List ℕ) (A : Accepted s) where
   F = facts s (A .lines) (A .end) (A .number) (A .script)
 
   own-formed : WellFormed (headerOf s) (dealIn (headerOf s) s)
-  own-formed = well-formed (headerOf s) 0 0 (own-deal s (A .lines) (A .end) (A .number) (A .script) 0 0)
+  own-formed = well-formed (headerOf s) 0 0 (F .field) (own-deal s (A .lines) (A .end) (A .number) (A .script) 0 0)
 
   made-bytes : (d : Deal) → Below 256 s → Below 256 (madeOn s d)
   unfolding sheetOf scriptIn

@@ -18,6 +18,7 @@ use Rattle.model.specs.Sheet.{headerOf, sheetNumber}
 use Rattle.model.specs.Run.{Spent, State, Supply, Stop, allSet, check, finish, orElse, runLines, nothingSpent, start, outcome, refusedInput, written, runScript, sheetScript, stopOf, run}
 use Rattle.model.specs.Exactness.{Accepted}
 use Rattle.model.specs.Refusals.{isRun, From, Numbered, Numbers, Untouched, NothingRun}
+use Rattle.model.proofs.StepLaws.{run-end, run-line}
 
 -- 1 to 8, or 0
 low : (b : Bool) (x y : ℕ) → x ≤ 8 → y ≤ 8 → cond b x y ≤ 8
@@ -85,11 +86,11 @@ or-else P zero place s x h k = k refl
 or-else P (suc number) place s x h k = h
 
 lines : (S : Setting) (u : Supply) (input : List Row) (end : ℕ) (xs : List Line) (s : State) → OfState (runLines S u input end xs s .number)
-unfolding runLines
-lines S u input end [] s = λ k. absurd (k refl)
+lines S u input end [] s = rw (run-end S u input end s) (λ k. absurd (k refl))
 lines S u input end (x ∷ xs) s =
-    or-else OfState (check u (cost (S .l) (x .command)) (s .spent)) (x .place) s _ (checked u _ _)
-    (λ _. lines S u input end xs (finish S input (x .command) s))
+    rw (run-line S u input end x xs s)
+    (or-else OfState (check u (cost (S .l) (x .command)) (s .spent)) (x .place) s _ (checked u _ _)
+    (λ _. lines S u input end xs (finish S input (x .command) s)))
 
 -- How a sheet's stop comes about.
 data Way (s : List ℕ) (x : Stop) : Type 0 where

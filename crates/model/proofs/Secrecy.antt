@@ -3,7 +3,7 @@
 -- Assumes nothing.
 use mathlib.Core.Path.{_≡_, sym, ap, ap₂, subst, _∙_}
 use mathlib.Core.List.{List}
-use Prim.Native.Nat.{ℕ}
+use Prim.Native.Nat.{ℕ, _<_}
 use native.Mathlib.Omega.{arith}
 use lib.Dec.{T, eqb, eqb-refl, lt→ltb}
 use lib.ListN.{length, drop, length-drop}
@@ -11,40 +11,44 @@ use lib.Seq.{length-take-le}
 use Rattle.algebra.specs.Lists.{All, none, one, allBelow}
 use Rattle.algebra.proofs.Lists.{all-below}
 use Rattle.algebra.proofs.Tests.{and-both}
-use Rattle.model.specs.Fields.{modulus, bits, largestK}
+use Rattle.model.specs.Fields.{Field, modulus, bits, largestK}
 use Rattle.model.specs.Sharing.{Sharing, secret}
 use Rattle.model.specs.Shamir.{Group}
 use Rattle.model.specs.Steps.{Setting, Row, Triple, Deal}
 use Rattle.model.specs.Script.{Line, accepted, scriptOf}
-use Rattle.model.specs.Sheet.{Header, headerOf, settingOf, impliedLength, scriptIn, inputIn, dealIn, maskRows, tripleRows, dealRows, secrets, spell, goodMask, goodTriple, sheetNumber, sheetOf}
+use Rattle.model.specs.Sheet.{Header, headerOf, settingOf, impliedLength, scriptIn, inputIn, dealIn, maskRows, tripleRows, dealRows, spell, goodMask, goodTriple, sheetNumber, sheetOf}
 use Rattle.model.specs.Run.{Stop, start, runLines, outcome, supplyOf, runScript, sheetScript, stopOf, run}
 use Rattle.model.specs.Secrecy.{WellFormed, Alike, SameTo, runOn, Secrecy}
+use Rattle.model.proofs.Each.{each-length}
 use Rattle.model.proofs.Fields.{fields}
+use Rattle.model.proofs.Bits.{bitsOf, length-bits}
+use Rattle.model.proofs.Unmasking.{masking-bits}
 use Rattle.model.proofs.Shared.{TripleOk}
-use Rattle.model.proofs.Masked.{MaskOk}
-use Rattle.model.proofs.Running.{length-secrets}
+use Rattle.model.proofs.Determined.{MaskOk, secrets-are, all-sharings}
 use Rattle.model.proofs.SheetDeal.{shape-in}
 use Rattle.model.proofs.Taking.{all-append}
-use Rattle.model.proofs.Acceptance.{sound, all-map, all-left, all-right, masks-ok, triples-ok, wider, lines-ok}
+use Rattle.model.proofs.Acceptance.{sound, given, all-map, all-left, all-right, masks-ok, triples-ok, lines-ok}
 use Rattle.model.proofs.MadeSheets.{Facts, all-in, made-run}
-use Rattle.model.proofs.Veil.{veiling}
-use Rattle.model.proofs.Veiling.{Formed, SameStop, Veiled, Veiling}
+use Rattle.model.proofs.Held.{Formed}
+use Rattle.model.proofs.Veil.{SameStop, Veiled, veiled}
 
 -- masks and triples as `Formed` and as `WellFormed` has them
-mask-rows : (S : Setting) {ms : List (List Row)} → All (MaskOk S) ms → All (Sharing (S .p) (S .n) (S .t)) (maskRows ms)
+mask-rows : (S : Setting) {ms : List (List Row)} → All (MaskOk S (S .p)) ms → All (Sharing (S .p) (S .n) (S .t)) (maskRows ms)
 unfolding maskRows
 mask-rows S none = none
-mask-rows S (one m ms) = all-append (m .sharings) (mask-rows S ms)
+mask-rows S (one m ms) = all-append (all-sharings (m .shareds)) (mask-rows S ms)
 
 triple-rows : (S : Setting) {xs : List Triple} → All (TripleOk S) xs → All (Sharing (S .p) (S .n) (S .t)) (tripleRows xs)
 unfolding tripleRows
 triple-rows S none = none
 triple-rows S (one x xs) = one (x .a-sharing) (one (x .b-sharing) (one (x .c-sharing) (triple-rows S xs)))
 
-good-mask : (S : Setting) (m : List Row) → MaskOk S m → T (goodMask S m)
+good-mask : (S : Setting) {K : ℕ} → Field (S .p) (S .l) K → (m : List Row) → MaskOk S (S .p) m → T (goodMask S m)
 unfolding goodMask
-good-mask S m N =
-    and-both (allBelow 2 (secrets S m)) _ (all-below 2 (secrets S m) .1 (N .masking .bits)) (lt→ltb (spell (secrets S m)) (S .p) (N .masking .below))
+good-mask S F m N =
+    let B = masking-bits F (N .r) (N .small) in
+    let bs = bitsOf (S .l) (N .r) in
+    rw (secrets-are (N .shareds)) (and-both (allBelow 2 bs) _ (all-below 2 bs .1 (B .bits)) (lt→ltb (spell bs) (S .p) (B .below)))
 
 good-triple : (S : Setting) (x : Triple) → TripleOk S x → T (goodTriple S x)
 unfolding goodTriple
@@ -60,14 +64,14 @@ module _ (h : Header) (log shown : ℕ) where
         triples-many = W .triples;
       }
 
-  pub well-formed : {d : Deal} → Formed (settingOf h) (supplyOf h log shown) d → WellFormed h d
-  well-formed {d} F =
+  pub well-formed : h .field < 4 → {d : Deal} → Formed (settingOf h) (supplyOf h log shown) d → WellFormed h d
+  well-formed f {d} F =
       record {
         masks = F .masks-many;
-        bits-each = all-map (λ m N. sym (length-secrets (settingOf h) m) ∙ N .masking .count) (F .masks-ok);
+        bits-each = all-map (λ m N. each-length (N .shareds) ∙ length-bits (bits (h .field)) (N .r)) (F .masks-ok);
         triples = F .triples-many;
         sharings = all-append (mask-rows (settingOf h) (F .masks-ok)) (triple-rows (settingOf h) (F .triples-ok));
-        good-masks = all-map (good-mask (settingOf h)) (F .masks-ok);
+        good-masks = all-map (good-mask (settingOf h) (fields (h .field) f)) (F .masks-ok);
         good-triples = all-map (good-triple (settingOf h)) (F .triples-ok);
       }
 
@@ -89,17 +93,7 @@ module _ (s : List ℕ) (xs : List Line) (end : ℕ) (number : sheetNumber s ≡
       }
 
   pub own-deal : (log shown : ℕ) → Formed (settingOf (headerOf s)) (supplyOf (headerOf s) log shown) (dealIn (headerOf s) s)
-  own-deal log shown =
-      let Q = sound s number in
-      let h = headerOf s in
-      let d = dealIn h s in
-      let rows = all-right (inputIn h s) (dealRows d) (Q .sharings) in
-      record {
-        masks-ok = masks-ok (settingOf h) (d .masks) (all-left (maskRows (d .masks)) (tripleRows (d .triples)) rows) (Q .masks) (shape-in h s .each);
-        masks-many = shape-in h s .masks;
-        triples-ok = triples-ok (settingOf h) (d .triples) (all-right (maskRows (d .masks)) (tripleRows (d .triples)) rows) (Q .triples);
-        triples-many = shape-in h s .triples;
-      }
+  own-deal log shown = given s (sound s number) log shown .formed
 
   own-stop : (log shown : ℕ) → stopOf s log shown
       ≡ runLines (settingOf (headerOf s)) (supplyOf (headerOf s) log shown) (inputIn (headerOf s) s) end xs (start (dealIn (headerOf s) s))
@@ -125,37 +119,36 @@ same-outcome set n a b {x} {y} Q =
     }
 
 -- one header and one script, two inputs
-module _ (theorem : Veiling) (h : Header) (script : List ℕ) (xs : List Line) (end log shown : ℕ) (set : List ℕ) (G : Group (h .n) (h .t) set)
+module _ (h : Header) (script : List ℕ) (xs : List Line) (end log shown : ℕ) (set : List ℕ) (G : Group (h .n) (h .t) set)
     (input input′ : List Row) (F : Facts h script input xs end) (F′ : Facts h script input′ xs end) (L : Alike set input input′) (d d′ : Deal)
     (D : Formed (settingOf h) (supplyOf h log shown) d) (D′ : Formed (settingOf h) (supplyOf h log shown) d′)
     (e : runLines (settingOf h) (supplyOf h log shown) input end xs (start d) .state .shown
     ≡ runLines (settingOf h) (supplyOf h log shown) input′ end xs (start d′) .state .shown) where
   over-rows : Veiled (settingOf h) (supplyOf h log shown) end xs set input input′
   over-rows =
-      let field = fields (h .field) (F .field) in
-      theorem (settingOf h) (largestK (h .field)) field (wider field) (F .people) (supplyOf h log shown) end xs
-      (lines-ok (modulus (h .field)) (largestK (h .field)) script xs end (F .script-is)) set G input input′ (F .sharings) (F′ .sharings)
-      L d d′ D D′ e
+      veiled (settingOf h) (fields (h .field) (F .field)) (F .people) (supplyOf h log shown) end xs
+      (lines-ok (modulus (h .field)) (largestK (h .field)) script xs end (F .script-is)) G (F .sharings) (F′ .sharings) L d d′ D D′ e
 
   runs-same : (q : Deal) → WellFormed h q → (a b : List ℕ) → length a ≡ log → length b ≡ shown
       → SameTo set (run (sheetOf h script input q) a b) (run (sheetOf h script input′ (over-rows .to q)) a b)
   runs-same q W a b la lb =
-      rw (made-run F W a b, made-run F′ (well-formed h log shown (over-rows .to-formed q (formed h log shown W))) a b, la, lb)
+      rw (made-run F W a b, made-run F′ (well-formed h log shown (F .field) (over-rows .to-formed q (formed h log shown W))) a b, la, lb)
       (same-outcome set (h .n) a b (over-rows .same q (formed h log shown W)))
 
-pub secrecy-from : Veiling → Secrecy
-secrecy-from theorem set s s′ log shown B q =
+-- demand 3
+pub secrecy : Secrecy
+secrecy set s s′ log shown B q =
     record {
       to = rows .to;
       from = rows .from;
-      to-formed = λ d W. well-formed h log shown (rows .to-formed d (formed h log shown W));
-      from-formed = λ d W. well-formed h log shown (rows .from-formed d (formed h log shown W));
+      to-formed = λ d W. well-formed h log shown (F .field) (rows .to-formed d (formed h log shown W));
+      from-formed = λ d W. well-formed h log shown (F .field) (rows .from-formed d (formed h log shown W));
       from-to = λ d W. rows .from-to d (formed h log shown W);
       to-from = λ d W. rows .to-from d (formed h log shown W);
       keeps = λ d W. rows .keeps d (formed h log shown W);
       same = λ d W a b la lb.
           subst (SameTo set (runOn s d a b)) (ap₂ (λ (z : Header) (c : List ℕ). run (sheetOf z c input′ (rows .to d)) a b) (B .header) (B .script))
-          (runs-same theorem h script xs e log shown set (B .parties) input input′ F F′ (B .inputs) (dealIn h s) d′ D D′ shown-same d W a b la lb);
+          (runs-same h script xs e log shown set (B .parties) input input′ F F′ (B .inputs) (dealIn h s) d′ D D′ shown-same d W a b la lb);
     }
   where
     xs : List Line
@@ -207,8 +200,4 @@ secrecy-from theorem set s s′ log shown B q =
         ∙ ap (λ (z : Header). runLines (settingOf z) (supplyOf z log shown) (inputIn (headerOf s′) s′) e xs (start (dealIn (headerOf s′) s′)) .state .shown) (sym (B .header))
 
     rows : Veiled (settingOf (headerOf s)) (supplyOf (headerOf s) log shown) (B .first .end) (B .first .lines) set (inputIn (headerOf s) s) (inputIn (headerOf s′) s′)
-    rows = over-rows theorem h script xs e log shown set (B .parties) input input′ F F′ (B .inputs) (dealIn h s) d′ D D′ shown-same
-
--- demand 3
-pub secrecy : Secrecy
-secrecy = secrecy-from veiling
+    rows = over-rows h script xs e log shown set (B .parties) input input′ F F′ (B .inputs) (dealIn h s) d′ D D′ shown-same

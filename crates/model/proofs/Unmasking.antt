@@ -13,7 +13,7 @@ use lib.Pow.{pow-pos, pow-mono}
 use lib.Seq.{length-take-le}
 use Rattle.algebra.specs.Ring.{add, sub, mul}
 use Rattle.algebra.specs.Lists.{Below}
-use Rattle.algebra.proofs.Ring.{ring, mod-ring, reduced, add-lt, sub-lt, add-up}
+use Rattle.algebra.proofs.Ring.{ring, mod-ring, reduced, add-lt, add-up}
 use Rattle.model.specs.Fields.{Field}
 use Rattle.model.specs.Sheet.{spell}
 use Rattle.model.specs.Plain.{less, rem}
@@ -126,13 +126,6 @@ module _ {p l K : ℕ} (F : Field p l K) {bs : List ℕ} (R : Masking p l bs) wh
   unfolding rem
   unmask-is k m a hk h l = rw spelt-mask (unmask-sum m _ h (omega arith) (add-lt a (2 ^ (k - 1)) (omega arith)))
 
--- the mask that takes X to an opened C
+-- the bits of a number below p are those of a well-formed mask
 pub masking-bits : {p l K : ℕ} → Field p l K → (r : ℕ) → r < p → Masking p l (bitsOf l r)
 masking-bits {p} {l} F r h = record { bits = below-bits l r; count = length-bits l r; below = rw (spell-small l r (omega arith)) h }
-
-pub unmask-opened : {p l K : ℕ} → Field p l K → (m C X : ℕ) → 1 ≤ m → m ≤ K → C < p → X < p → unmask p m C (bitsOf l (sub p C X)) ≡ X % 2 ^ m
-unmask-opened {p} {l} F m C X h k hC hX =
-    let z : 0 < p = omega arith in
-    let d : sub p C X < p = sub-lt C X z in
-    let c : add p X (sub p C X) ≡ C = reduced hC (simp mod-ring (ring z _ _ _ _ (omega arith))) in
-    rw (spell-small l (sub p C X) (omega arith), c) at (unmask-sum F (masking-bits F (sub p C X) d) m X h k hX)

@@ -22,30 +22,38 @@ free rs ds = record { reads = rs; writes = ds; inputs = 0; masks = 0; triples = 
 abbrev pub spending : List ℕ → ℕ → ℕ → Cost
 spending rs d n = record { reads = rs; writes = d ∷ []; inputs = 0; masks = 0; triples = n; openings = 2 * n; revealed = 0 }
 
--- a command that spends a mask, with its triples and openings
-abbrev pub masking : ℕ → ℕ → ℕ → ℕ → Cost
-masking l d a m =
-    record { reads = a ∷ []; writes = d ∷ []; inputs = 0; masks = 1; triples = l + 2 * m - 2; openings = 1 + 2 * (l + 2 * m - 2); revealed = 0 }
+-- a command that spends a mask and so many triples, with their openings
+abbrev pub masking : ℕ → ℕ → ℕ → Cost
+masking d a n = record { reads = a ∷ []; writes = d ∷ []; inputs = 0; masks = 1; triples = n; openings = 1 + 2 * n; revealed = 0 }
 
--- The sentences after the paper's "Spent:", each over its commands; they name none of END, CONST, ADD, SUB and SCALE. l is the paper's ℓ.
-unfoldable pub cost : ℕ → Command → Cost
-cost l END = free [] []
+-- The sentences after the paper's "Spent:", each over its commands; they name none of END, CONST, ADD, SUB and SCALE. `triples` is how many triples
+-- MOD takes for m.
+unfoldable pub costBy : (ℕ → ℕ) → Command → Cost
+costBy triples END = free [] []
 -- "Inputs counts the finished LOADs"
-cost l (LOAD d) = record { reads = []; writes = d ∷ []; inputs = 1; masks = 0; triples = 0; openings = 0; revealed = 0 }
+costBy triples (LOAD d) = record { reads = []; writes = d ∷ []; inputs = 1; masks = 0; triples = 0; openings = 0; revealed = 0 }
 -- nothing is spent
-cost l (CONST d v) = free [] (d ∷ [])
-cost l (ADD d a b) = free (a ∷ b ∷ []) (d ∷ [])
-cost l (SUB d a b) = free (a ∷ b ∷ []) (d ∷ [])
-cost l (SCALE d a v) = free (a ∷ []) (d ∷ [])
+costBy triples (CONST d v) = free [] (d ∷ [])
+costBy triples (ADD d a b) = free (a ∷ b ∷ []) (d ∷ [])
+costBy triples (SUB d a b) = free (a ∷ b ∷ []) (d ∷ [])
+costBy triples (SCALE d a v) = free (a ∷ []) (d ∷ [])
 -- "Spent: MUL one triple, two openings. BITLT w − 1 triples, twice as many openings."
-cost l (MUL d a b) = spending (a ∷ b ∷ []) d 1
-cost l (BITLT d b w v) = spending (from b w) d (w - 1)
--- "MOD, TRUNC, BLOCKS one mask, ℓ + 2m − 2 triples, and 1 + 2(ℓ + 2m − 2) openings."
-cost l (MOD d a k m) = masking l d a m
-cost l (TRUNC d a k m) = masking l d a m
-cost l (BLOCKS d a k m) = masking l d a m
+costBy triples (MUL d a b) = spending (a ∷ b ∷ []) d 1
+costBy triples (BITLT d b w v) = spending (from b w) d (w - 1)
+-- "MOD, TRUNC, BLOCKS one mask, ℓ + 2m − 2 triples, and 1 + 2(ℓ + 2m − 2) openings.": with `triples m` for ℓ + 2m − 2
+costBy triples (MOD d a k m) = masking d a (triples m)
+costBy triples (TRUNC d a k m) = masking d a (triples m)
+costBy triples (BLOCKS d a k m) = masking d a (triples m)
 -- "LTZ and OVER the same with m = k − 1."
-cost l (LTZ d a k) = masking l d a (k - 1)
-cost l (OVER d a k v) = masking l d a (k - 1)
+costBy triples (LTZ d a k) = masking d a (triples (k - 1))
+costBy triples (OVER d a k v) = masking d a (triples (k - 1))
 -- "REVEAL one opening, and its value goes to the revealed list."
-cost l (REVEAL a) = record { reads = a ∷ []; writes = []; inputs = 0; masks = 0; triples = 0; openings = 1; revealed = 1 }
+costBy triples (REVEAL a) = record { reads = a ∷ []; writes = []; inputs = 0; masks = 0; triples = 0; openings = 1; revealed = 1 }
+
+-- "ℓ + 2m − 2 triples"; l is the paper's ℓ
+abbrev pub modTriples : ℕ → ℕ → ℕ
+modTriples l m = l + 2 * m - 2
+
+-- what a command costs with the paper's MOD
+abbrev pub cost : ℕ → Command → Cost
+cost l c = costBy (modTriples l) c

@@ -1,8 +1,8 @@
 -- Demand 2, about the states that runs of whole scripts on accepted sheets pass through: "After each command the shared secret equals the exact
 -- floor, remainder or comparison, as Catrina and de Hoogh define them, wherever the number lies in its k-bit signed range, and the paper's
 -- formula elsewhere. Each opened share is the one that the paper's steps give. Deal spent and openings made equal the paper's counts." What each
--- command leaves is in Results.antt; the opened shares are those of Steps.antt, by `finish` in Run.antt. The demand's other sentence, "Sharing and
--- reconstruction are Shamir's, each undoing the other.", is in Shamir.antt.
+-- command leaves is in Results.antt; the opened shares are those of Trees.antt, read by rows (`byRows` in Steps.antt, `finish` in Run.antt). The demand's
+-- other sentence, "Sharing and reconstruction are Shamir's, each undoing the other.", is in Shamir.antt.
 -- Assumes nothing.
 use mathlib.Core.Path.{_≡_}
 use mathlib.Core.Bool.{true, false}

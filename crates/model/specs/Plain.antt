@@ -6,7 +6,7 @@ use Prim.Native.Nat.{ℕ, zero, suc, _-_, _/_, _%_, _^_}
 use lib.ListN.{getD, set}
 use Rattle.algebra.specs.Ring.{add, sub, mul}
 use Rattle.model.specs.Fields.{inversePowerOf2}
-use Rattle.model.specs.Steps.{odd}
+use Rattle.model.specs.Trees.{odd}
 use Rattle.model.specs.Script.{Command, END, LOAD, CONST, ADD, SUB, SCALE, MUL, MOD, TRUNC, LTZ, OVER, BLOCKS, REVEAL, BITLT}
 
 -- BITLT on the values of registers. "If registers are not bits, this rule still says what comes out."

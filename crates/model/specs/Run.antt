@@ -1,29 +1,24 @@
--- The paper, "Refused because of the state" and "The words of demand 3": the state, the checks 21 to 26, and the run of a sheet.
+-- The paper, "Refused because of the state" and "The words of demand 3": the state, a command and a script's lines read by rows, and the run of a
+-- sheet. What Checks.antt defines is passed on, with `noRow` and `written`.
 -- Assumes nothing.
-use mathlib.Core.Bool.{Bool, true, false, _&&_}
-use mathlib.Core.List.{List, [], _∷_, _++_}
-use Prim.Native.Nat.{ℕ, zero, suc, _+_, _*_}
-use lib.Dec.{leb}
-use lib.ListN.{length, getD, set, replicate}
+use mathlib.Core.Bool.{Bool, false}
+use mathlib.Core.List.{List, [], _++_}
+use Prim.Native.Nat.{ℕ, zero, suc}
+use lib.ListN.{length, getD, replicate}
 use Rattle.algebra.specs.Lists as Lists
 use Rattle.model.specs.Fields.{largestK}
-use Rattle.model.specs.Refusing.{tried}
 use Rattle.model.specs.Deal.{Setting, Row, Deal}
 pub use Rattle.model.specs.Deal.{noRow}
-use Rattle.model.specs.Steps.{Step, plus, minus, times, constant, value, product, comparison, remainder, floor, sign, over, blocks}
+use Rattle.model.specs.Trees.{Tree, done}
+use Rattle.model.specs.Trees as Trees
+use Rattle.model.specs.Steps.{Worked, rowOps, byRows}
 unfoldable pub use Rattle.model.specs.Steps.{written}
-use Rattle.model.specs.Script.{Command, END, LOAD, CONST, ADD, SUB, SCALE, MUL, MOD, TRUNC, LTZ, OVER, BLOCKS, REVEAL, BITLT, Line, Script, accepted, refused, scriptOf}
-use Rattle.model.specs.Costs.{Cost, cost}
+use Rattle.model.specs.Script.{Command, Line, Script, accepted, refused, scriptOf}
+use Rattle.model.specs.Costs.{modTriples, cost}
+pub use Rattle.model.specs.Checks.{Spent, Supply}
+unfoldable pub use Rattle.model.specs.Checks.{allSet, marked, check, pay}
+use Rattle.model.specs.Commands.{Ended, command, lines}
 use Rattle.model.specs.Sheet.{Header, headerOf, settingOf, scriptIn, inputIn, dealIn, sheetNumber}
-
--- What was spent and which registers are set: all that the checks look at.
-pub record Spent : Type 0 where
-  pub inputs : ℕ
-  pub masks : ℕ
-  pub triples : ℕ
-  pub openings : ℕ
-  pub revealed : ℕ
-  pub marks : List Bool
 
 -- The state of a run: what was spent, the registers, the deal that is left, the rows opened and the values revealed so far.
 pub record State : Type 0 where
@@ -33,93 +28,28 @@ pub record State : Type 0 where
   pub opened : List Row
   pub shown : List ℕ
 
--- What there is: the header's counts, the parties, and the lengths of the two output buffers.
-pub record Supply : Type 0 where
-  pub inputs : ℕ
-  pub masks : ℕ
-  pub triples : ℕ
-  pub parties : ℕ
-  pub log : ℕ
-  pub shown : ℕ
-
--- all the registers of a list are set; "21: a register read is unset" refuses where this fails
-unfoldable pub allSet : List Bool → List ℕ → Bool
-allSet marks [] = true
-allSet marks (r ∷ rs) = getD marks r false && allSet marks rs
-
--- "the registers and which are set": the marks after the registers of a list were written
-unfoldable pub marked : List Bool → List ℕ → List Bool
-marked marks [] = marks
-marked marks (d ∷ ds) = marked (set marks d true) ds
-
--- "Tried before a command changes anything, in this order": 21 to 26, or 0. A test is of what must hold, and its number is the refusal's.
-unfoldable pub check : Supply → Cost → Spent → ℕ
-check u c s =
-    -- "21: a register read is unset"
-    tried (allSet (s .marks) (c .reads)) 21
-    -- "22: no input row left"
-    (tried (leb (s .inputs + c .inputs) (u .inputs)) 22
-    -- "23: no mask left"
-    (tried (leb (s .masks + c .masks) (u .masks)) 23
-    -- "24: fewer triples left than the command takes"
-    (tried (leb (s .triples + c .triples) (u .triples)) 24
-    -- "25: the record buffer cannot take all its shares"
-    (tried (leb ((s .openings + c .openings) * u .parties) (u .log)) 25
-    -- "26: the revealed buffer is full"
-    (tried (leb (s .revealed + c .revealed) (u .shown)) 26 0)))))
-
--- "Inputs counts the finished LOADs; masks, triples and openings are the sums of what is spent over the finished commands."
-unfoldable pub pay : Cost → Spent → Spent
-pay c s =
-    record {
-      inputs = s .inputs + c .inputs;
-      masks = s .masks + c .masks;
-      triples = s .triples + c .triples;
-      openings = s .openings + c .openings;
-      revealed = s .revealed + c .revealed;
-      marks = marked (s .marks) (c .writes);
-    }
-
--- register r's row, and the rows of registers b to b + w - 1
+-- register r's row
 abbrev pub register : State → ℕ → Row
 register s r = getD (s .registers) r noRow
 
-unfoldable pub registersFrom : State → ℕ → ℕ → List Row
-registersFrom s b zero = []
-registersFrom s b (suc w) = register s b ∷ registersFrom s (suc b) w
+-- the state after a tree was worked on the deal of s: what it opened and revealed comes after what was opened and revealed before
+abbrev pub stateAfter : {A : Type 0} → State → Spent → List Row → Worked A → State
+stateAfter s spent registers w =
+    record { spent = spent; registers = registers; deal = w .deal; opened = s .opened ++ w .opened; shown = s .shown ++ w .shown }
 
--- a step's row goes to register d
-unfoldable pub put : ℕ → State → Step → State
-put d s x =
-    record { spent = s .spent; registers = set (s .registers) d (x .left); deal = x .deal; opened = s .opened ++ x .opened; shown = s .shown }
+-- a command and the lines of a script as trees over rows
+module _ (S : Setting) where
+  abbrev pub rowCommand : {A : Type 0} → List Row → ℕ → Command → List Row → (List Row → Tree Row A) → Tree Row A
+  rowCommand = command (S .p) (rowOps S) noRow (Trees.remainder (S .p) (rowOps S))
 
--- a row made without an opening
-abbrev pub made : State → Row → Step
-made s x = record { left = x; opened = []; deal = s .deal }
+  abbrev pub rowLines : Supply → List Row → ℕ → List Line → Spent → List Row → Tree Row (Ended Row)
+  rowLines = lines (S .p) (rowOps S) noRow (Trees.remainder (S .p) (rowOps S)) (modTriples (S .l))
 
--- what a command does to registers, deal and output; "All operands are read before d is written, so d may be one of them"
+-- what a command does to registers, deal and output: its tree, read by rows
 unfoldable pub perform : Setting → List Row → Command → State → State
-perform S input END s = s
-perform S input (LOAD d) s = put d s (made s (getD input (s .spent .inputs) noRow))
-perform S input (CONST d v) s = put d s (made s (constant S v))
-perform S input (ADD d a b) s = put d s (made s (plus S (register s a) (register s b)))
-perform S input (SUB d a b) s = put d s (made s (minus S (register s a) (register s b)))
-perform S input (SCALE d a v) s = put d s (made s (times S v (register s a)))
-perform S input (MUL d a b) s = put d s (product S (register s a) (register s b) (s .deal))
-perform S input (MOD d a k m) s = put d s (remainder S k m (register s a) (s .deal))
-perform S input (TRUNC d a k m) s = put d s (floor S k m (register s a) (s .deal))
-perform S input (LTZ d a k) s = put d s (sign S k (register s a) (s .deal))
-perform S input (OVER d a k v) s = put d s (over S k v (register s a) (s .deal))
-perform S input (BLOCKS d a k m) s = put d s (blocks S k m (register s a) (s .deal))
-perform S input (REVEAL a) s =
-    record {
-      spent = s .spent;
-      registers = s .registers;
-      deal = s .deal;
-      opened = s .opened ++ (register s a ∷ []);
-      shown = s .shown ++ (value S (register s a) ∷ []);
-    }
-perform S input (BITLT d b w v) s = put d s (comparison S v (registersFrom s b w) (s .deal))
+perform S input c s =
+    let w = byRows S (rowCommand S input (s .spent .inputs) c (s .registers) done) (s .deal) in
+    stateAfter s (s .spent) (w .left) w
 
 -- a finished command: performed and paid
 unfoldable pub finish : Setting → List Row → Command → State → State
@@ -133,17 +63,17 @@ pub record Stop : Type 0 where
   pub place : ℕ
   pub state : State
 
--- "a refused one ends the run": with a number other than 0 it stops at this place in the state s; with 0 it goes on
+-- with a number other than 0 the run stops at this place in the state s; with 0 it goes on
 abbrev pub orElse : ℕ → ℕ → State → Stop → Stop
 orElse zero place s go = go
 orElse (suc number) place s go = record { number = suc number; place = place; state = s }
 
--- "Each command gets exactly what the one before it left; a refused one ends the run." "Earlier commands stand. The refused command changes no
--- cell, count or buffer, and its offset is the place. Otherwise the answer is 0 at END's offset."
+-- the lines of a script, read by rows from the state s on; `end` is END's offset
 unfoldable pub runLines : Setting → Supply → List Row → ℕ → List Line → State → Stop
-runLines S u input end [] s = record { number = 0; place = end; state = s }
-runLines S u input end (x ∷ xs) s =
-    orElse (check u (cost (S .l) (x .command)) (s .spent)) (x .place) s (runLines S u input end xs (finish S input (x .command) s))
+runLines S u input end xs s =
+    let w = byRows S (rowLines S u input end xs (s .spent) (s .registers)) (s .deal) in
+    let e = w .left in
+    record { number = e .number; place = e .place; state = stateAfter s (e .spent) (e .registers) w }
 
 -- "A run starts with all registers unset, all counts 0 and nothing written."
 unfoldable pub nothingSpent : Spent

@@ -11,7 +11,7 @@ use lib.Seq.{ext-getD, getD-take, getD-drop, length-take-le}
 use Rattle.algebra.specs.Ring.{add, sub, mul}
 use Rattle.algebra.specs.Rows.{tab, row}
 use Rattle.algebra.proofs.Rows.{is-tab, row-at, row-ext, row-again, length-row}
-use Rattle.model.specs.Steps.{Triple, Deal, plus, minus, times, constant, beaver, product, chosen, quotient}
+use Rattle.model.specs.Steps.{Triple, Deal, plus, minus, times, constant, beaver, byRows, product, chosen, quotient}
 use Rattle.model.specs.Fields.{inversePowerOf2}
 use Rattle.model.specs.Run.{noRow}
 use Rattle.steps.specs.Settings.{setting}
@@ -24,12 +24,12 @@ zeros (suc m) = rw (zeros m)
 module _ (p l n t : ℕ) where
   pub beaver-columns : (a1 b1 : ℕ) (x : Triple) → beaver (setting p l n t) a1 b1 x
       ≡ row n (λ k. add p (add p (add p (getD (x .c) k 0) (mul p a1 (getD (x .b) k 0))) (mul p b1 (getD (x .a) k 0))) (mul p a1 b1))
-  unfolding beaver plus times constant
+  unfolding plus times constant
   beaver-columns a1 b1 x = row-ext n _ _ (λ k h. simp row-at)
 
   -- a product's row has 0 past its n shares
   pub product-row : (x y : List ℕ) (d : Deal) {q : List ℕ} → q ≡ product (setting p l n t) x y d .left → q ≡ row n (λ k. getD q k 0)
-  unfolding product
+  unfolding product byRows
   product-row x y d e = rw (e ∙ beaver-columns _ _ _) (sym (row-again n _))
 
   pub chosen-columns : (one : Bool) (bit lt q : List ℕ) → q ≡ row n (λ k. getD q k 0)

@@ -3,7 +3,8 @@
 use mathlib.Core.Path.{_≡_, refl, sym, ap, _∙_}
 use mathlib.Core.Bool.{cond}
 use mathlib.Core.List.{List, [], _∷_, _++_, append-assoc, append-nil}
-use Prim.Native.Nat.{ℕ, zero, suc, _+_, _-_, _*_, _/_, _≤_, _<_}
+use Prim.Native.Nat.{ℕ, suc, _+_, _-_, _*_, _/_, _≤_, _<_}
+use native.Mathlib.Nat.{sub-zero}
 use native.Mathlib.Omega.{arith}
 use borrow.Rule.Slice.PartMut.{putMid, midOf}
 use lib.ListN.{length, take, drop, length-append}
@@ -13,43 +14,39 @@ use Rattle.algebra.proofs.Lists.{over-then, length-over}
 use Rattle.model.specs.Bytes.{sevens}
 use Rattle.model.specs.Run.{noRow, written}
 use Rattle.model.specs.Sheet.{triplesFrom}
-use Rattle.model.specs.Steps.{Setting, Row, Deal, Step, after, odd, constant, product, chosen, comparisonFrom, comparison}
+use Rattle.model.specs.Steps.{Setting, Row, Deal, Worked, after, rowOps, byRows, product, comparison, chosen}
+use Rattle.model.specs.Trees.{odd}
+use Rattle.model.specs.Trees as Trees
 use Rattle.model.proofs.Taking.{seven-minus}
 use Rattle.model.proofs.Written.{written-append}
 use Rattle.steps.specs.Settings.{setting}
 use Rattle.steps.proofs.ByColumn.{constant-zero}
 
-after-after : (os us : List Row) (x : Step) → after os (after us x) ≡ after (os ++ us) x
-after-after os us x = ap (λ (o : List Row). record { left = x .left; opened = o; deal = x .deal }) (sym (append-assoc os us (x .opened)))
+-- BITLT from a bit on, worked on rows
+abbrev comparisonFrom : Setting → ℕ → List Row → Row → Deal → Worked Row
+comparisonFrom S v bits lt d = byRows S (Trees.comparisonFrom (rowOps S) v bits lt Trees.done) d
 
 -- a bit more
 comparison-more : (S : Setting) (v : ℕ) (bits : List Row) (lt : Row) (d : Deal) (os : List Row) {rows : List Row} {bit next : Row} → rows ≡ bit ∷ bits
     → next ≡ chosen S (odd v) bit lt (product S bit lt d .left)
-    → after os (comparisonFrom S v rows lt d) ≡ after (os ++ product S bit lt d .opened) (comparisonFrom S (v / 2) bits next (product S bit lt d .deal))
-unfolding comparisonFrom
-comparison-more S v bits lt d os eb en = rw (eb, en) (after-after os _ _)
+    → after os [] (comparisonFrom S v rows lt d) ≡ after (os ++ product S bit lt d .opened) [] (comparisonFrom S (v / 2) bits next (product S bit lt d .deal))
+unfolding Trees.comparisonFrom byRows product
+comparison-more S v bits lt d os eb en = rw (eb, en, append-assoc)
 
 -- what a product leaves of the triples, and what it writes
 product-triples : (S : Setting) (s : List ℕ) (n i count : ℕ) (x y : Row) (d : Deal) → d .triples ≡ triplesFrom s n i (suc count)
     → product S x y d .deal .triples ≡ triplesFrom s n (i + 12 * n) count
-unfolding product triplesFrom
+unfolding product byRows triplesFrom
 product-triples S s n i count x y d e =
     let k : i + 4 * n * 3 ≡ i + 12 * n = omega arith in
     ap others e ∙ rw k
 
 product-writes : (S : Setting) (x y : Row) (d : Deal) → S .n ≤ 7 → length (written (S .n) (product S x y d .opened)) ≡ S .n + S .n
-unfolding product written
+unfolding product byRows written
 product-writes S x y d h = two _ _ (seven-minus S h x _) (seven-minus S h y _)
   where
     two : (a b : Row) → length a ≡ 7 → length b ≡ 7 → length (written (S .n) (a ∷ b ∷ [])) ≡ S .n + S .n
     two a b ea eb = rw (length-append, length-append, length-take-le (S .n) a (rw ea h), length-take-le (S .n) b (rw eb h)) (omega arith)
-
--- the model's comparison from its first bit
-comparison-first : (S : Setting) (v w : ℕ) (bits : List ℕ) (d : Deal) → 1 ≤ w
-    → comparison S v (sevens w bits) d ≡ comparisonFrom S (v / 2) (sevens (w - 1) (drop 7 bits)) (cond (odd v) (constant S 0) (take 7 bits)) d
-unfolding comparison sevens
-comparison-first S v zero bits d h = absurd (omega arith)
-comparison-first S v (suc w) bits d h = let e : suc w - 1 ≡ w = omega arith in rw e
 
 sevens-more : (w k : ℕ) (bits : List ℕ) {bit : Row} → k < w → bit ≡ take 7 (drop (7 * k) bits)
     → sevens (w - k) (drop (7 * k) bits) ≡ bit ∷ sevens (w - (k + 1)) (drop (7 * (k + 1)) bits)
@@ -71,7 +68,8 @@ module _ (p n t v w : ℕ) (bits s : List ℕ) (i : ℕ) (part₀ : List ℕ) wh
     pub opened : List Row
     pub deal : Deal
     pub count : ℕ
-    pub same : comparison (setting p l n t) v (sevens w bits) d ≡ after opened (comparisonFrom (setting p l n t) rest (sevens (w - k) (drop (7 * k) bits)) lt deal)
+    pub same : byRows (setting p l n t) (Trees.comparison (rowOps (setting p l n t)) v (sevens w bits) Trees.done) d
+        ≡ after opened [] (comparisonFrom (setting p l n t) rest (sevens (w - k) (drop (7 * k) bits)) lt deal)
     pub triples : deal .triples ≡ triplesFrom s n from count
     pub enough : w - k ≤ count
     pub part-is : part ≡ over (written n opened) part₀
@@ -96,7 +94,7 @@ module _ (p n t v w : ℕ) (bits s : List ℕ) (i : ℕ) (part₀ : List ℕ) wh
               opened = [];
               deal = d;
               count = count;
-              same = comparison-first (setting p l n t) v w bits d h1 ∙ rw (el, eb, constant-zero p l n t h);
+              same = unfold Trees.comparison in rw (rw sub-zero at (sevens-more w 0 bits h1 eb), el, constant-zero p l n t h);
               triples = e;
               enough = omega arith;
               part-is = unfold over written in refl;
@@ -155,9 +153,9 @@ module _ {p n t v w : ℕ} {bits s : List ℕ} {i : ℕ} {part₀ lt : List ℕ}
 
     pub compared-end : w ≤ k → (l count : ℕ) (d : Deal) → d .triples ≡ triplesFrom s n i count → w ≤ suc count
         → (lt ≡ comparison (setting p l n t) v (sevens w bits) d .left) × (part ≡ over (written n (comparison (setting p l n t) v (sevens w bits) d .opened)) part₀)
-    unfolding sevens comparisonFrom
+    unfolding sevens Trees.comparisonFrom byRows comparison
     compared-end h l count d e hc =
         let x = C .so-far l count d e hc in
         let z : w - k ≡ 0 = omega arith in
         let q = rw z at (x .same) in
-        (ap (λ (r : Step). r .left) (sym q), x .part-is ∙ rw (q, append-nil))
+        (ap (λ (r : Worked Row). r .left) (sym q), x .part-is ∙ rw (q, append-nil))

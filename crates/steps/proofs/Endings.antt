@@ -60,7 +60,6 @@ pub opened-done : (p l n t m c : ℕ) (s : List ℕ) (mask i from done power c0 
     let g = product S (x .f .left) (minus S (x .u1 .left) (x .u0 .left)) (x .u1 .deal) in
     (r ≡ unmasked S m c bits (x .f .left) (plus S (x .u0 .left) (g .left)))
     × (putMid done (length mid - done) mid last ≡ over (threeWritten n x ++ written n (g .opened)) before)
-unfolding unmasked
 opened-done p l n t m c s mask i from done power c0 c1 step f u0 u1 before mid last h one high ep e0 e1 es e3 efrom edone eg count d e k =
     let S = setting p l n t in
     let bits = rowsAt s n mask l in

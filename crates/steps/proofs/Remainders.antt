@@ -1,6 +1,6 @@
 -- MOD as the code has it: one opening, then what follows the opened number; and the room that it needs.
 -- Assumes nothing.
-use mathlib.Core.Path.{_≡_, refl, sym, ap, _∙_}
+use mathlib.Core.Path.{_≡_, sym, ap, _∙_}
 use mathlib.Core.List.{List, _++_, append-assoc}
 use Prim.Native.Nat.{ℕ, _+_, _-_, _*_, _%_, _^_, _≤_, _<_}
 use native.Mathlib.Nat.{mul-le-mul-right}
@@ -14,7 +14,9 @@ use Rattle.algebra.proofs.Lists.{over-then}
 use Rattle.model.specs.Run.{written}
 use Rattle.model.specs.Sharing.{secret}
 use Rattle.model.specs.Sheet.{rowsAt, triplesFrom}
-use Rattle.model.specs.Steps.{Setting, Row, Deal, lessMask, value, plus, minus, product, unmasked, nextMask, masked, stepC, stepF, stepU0, stepU1, stepG, stepU, remainder}
+use Rattle.model.specs.Steps.{Setting, Row, Deal, lessMask, plus, minus, value, nextMask, product, remainder, masked, unmasked}
+use Rattle.model.specs.Parts.{stepC, stepF, stepU0, stepU1, stepG}
+use Rattle.model.proofs.StepLaws.{remainder-is}
 use Rattle.model.proofs.Taking.{seven-plus}
 use Rattle.model.proofs.Written.{written-append}
 use Rattle.steps.specs.Settings.{setting}
@@ -37,15 +39,10 @@ value-is : (S : Setting) {c : ℕ} {x y : Row} → x ≡ y → c ≡ secret (S .
 unfolding value
 value-is S e h = h ∙ ap (secret (S .p) (S .t)) e
 
-module _ (S : Setting) (k m : ℕ) (a : Row) (d : Deal) where
-  left-is : remainder S k m a d .left ≡ unmasked S m (stepC S k a d) (nextMask S d) (stepF S k a d .left) (stepU S k m a d)
-  unfolding remainder
-  left-is = refl
-
-  written-is : (n : ℕ) {x : Row} → x ≡ masked S k a d → written n (remainder S k m a d .opened)
-      ≡ take n x ++ ((written n (stepF S k a d .opened) ++ (written n (stepU0 S k m a d .opened) ++ written n (stepU1 S k m a d .opened))) ++ written n (stepG S k m a d .opened))
-  unfolding remainder written
-  written-is n e = rw (e, written-append, written-append, written-append, append-assoc, append-assoc)
+written-is : (S : Setting) (k m : ℕ) (a : Row) (d : Deal) (n : ℕ) {x : Row} → x ≡ masked S k a d → written n (remainder S k m a d .opened)
+    ≡ take n x ++ ((written n (stepF S k a d .opened) ++ (written n (stepU0 S k m a d .opened) ++ written n (stepU1 S k m a d .opened))) ++ written n (stepG S k m a d .opened))
+unfolding written
+written-is S k m a d n e = rw (remainder-is S k m a d, e, written-append, written-append, written-append, append-assoc, append-assoc)
 
 pub remainder-done : (p l n t k m c : ℕ) (a : Row) (s : List ℕ) (mask i : ℕ) (before mid last : List ℕ) {x r : Row} → n ≤ 7 → m ≤ l
     → ((t : ℕ) (d : Deal) → nextMask (setting p l n t) d ≡ rowsAt s n mask l → x ≡ masked (setting p l n t) k a d)
@@ -65,6 +62,6 @@ remainder-done p l n t k m c a s mask i before mid last {x} h high em ec e1 eo c
     let y = rw (ev, low, ← eN) at (eo count (lessMask d) e room) in
     let cells : length x ≡ 7 = ap length ex ∙ seven-plus S h _ _ in
     let seven : length (take n x) ≡ n = length-take-le n x (omega arith) in (
-      y .0 ∙ sym (left-is S k m a d),
+      y .0 ∙ rw (remainder-is S k m a d),
       over-then before (take n x) _ mid last n e1 seven (y .1) ∙ ap (λ (v : List ℕ). over v before) (sym (written-is S k m a d n ex)),
     )

@@ -9,6 +9,7 @@ use Rattle.model.specs.Bytes.{rowAt}
 use Rattle.model.specs.Sheet.{rowsAt}
 use Rattle.model.specs.Run.{noRow}
 use Rattle.model.specs.Steps.{plus, times, spelled}
+use Rattle.model.specs.Trees as Trees
 use Rattle.steps.specs.Settings.{setting}
 use Rattle.steps.proofs.ByColumn.{constant-zero}
 
@@ -20,7 +21,7 @@ pub record Spelling (p n : ℕ) (s : List ℕ) (i w k from : ℕ) (r : List ℕ)
 
 module _ {p n : ℕ} {s : List ℕ} {i w : ℕ} where
   pub spelling-start : n ≤ 7 → Spelling p n s i w w (i + w * (4 * n)) noRow
-  unfolding spelled rowsAt
+  unfolding Trees.spelled rowsAt
   spelling-start h =
       let e : w - w ≡ 0 = omega arith in
       record { within = omega arith; from-is = refl; is = λ l t. rw e (sym (constant-zero p l n t h)) }
@@ -34,7 +35,7 @@ module _ {p n : ℕ} {s : List ℕ} {i w : ℕ} where
 
   pub spelling-more : {k from : ℕ} {r x r′ : List ℕ} → Spelling p n s i w k from r → 0 < k → x ≡ rowAt s n (from - 4 * n)
       → ((l t : ℕ) → r′ ≡ plus (setting p l n t) x (times (setting p l n t) 2 r)) → Spelling p n s i w (k - 1) (from - 4 * n) r′
-  unfolding spelled rowsAt
+  unfolding Trees.spelled rowsAt
   spelling-more {k} {from} P h ex er =
       let f = spelling-fits P h in
       let m : k ≡ suc (k - 1) = omega arith in

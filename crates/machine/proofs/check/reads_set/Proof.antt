@@ -1,7 +1,7 @@
 -- `check::reads_set` meets its contract: by the command.
 -- Assumes nothing.
 use borrow.Author.Needs.{needs}
-use Rattle.model.specs.Costs.{cost}
+use Rattle.model.specs.Costs.{costBy}
 use Rattle.model.specs.Run.{allSet}
 use Rattle.machine.proofs.Ranging.{ranged}
 use Rattle.machine.proofs.check.reads_set.Statement.{statement}
@@ -83,59 +83,59 @@ run-set-requires : tie.Need-run-set-requires
 run-set-requires c κs = ranged (c .before .before .before .args .f) (c .before .before .before .pre) (c .before .c11 .given .1) .bits-in
 
 returns : tie.Need-returns
-unfolding cost allSet
+unfolding costBy allSet
 returns c = rw (c .enum-told .given .1)
 
 returns-2 : tie.Need-returns-2
-unfolding cost allSet
+unfolding costBy allSet
 returns-2 c = rw (c .enum-told2 .given .1)
 
 returns-3 : tie.Need-returns-3
-unfolding cost allSet
+unfolding costBy allSet
 returns-3 c = rw (c .enum-told3 .given .1)
 
 returns-4 : tie.Need-returns-4
-unfolding cost
+unfolding costBy
 returns-4 c = rw (c .before .before .c .given .1) (c .both-set .ensures)
 
 returns-5 : tie.Need-returns-5
-unfolding cost
+unfolding costBy
 returns-5 c = rw (c .before .before .c2 .given .1) (c .both-set2 .ensures)
 
 returns-6 : tie.Need-returns-6
-unfolding cost
+unfolding costBy
 returns-6 c = rw (c .before .before .c3 .given .1) (c .set .ensures)
 
 returns-7 : tie.Need-returns-7
-unfolding cost
+unfolding costBy
 returns-7 c = rw (c .before .before .c4 .given .1) (c .both-set3 .ensures)
 
 returns-8 : tie.Need-returns-8
-unfolding cost
+unfolding costBy
 returns-8 c = rw (c .before .before .c5 .given .1) (c .set2 .ensures)
 
 returns-9 : tie.Need-returns-9
-unfolding cost
+unfolding costBy
 returns-9 c = rw (c .before .before .c6 .given .1) (c .set3 .ensures)
 
 returns-10 : tie.Need-returns-10
-unfolding cost
+unfolding costBy
 returns-10 c = rw (c .before .before .c7 .given .1) (c .set4 .ensures)
 
 returns-11 : tie.Need-returns-11
-unfolding cost
+unfolding costBy
 returns-11 c = rw (c .before .before .c8 .given .1) (c .set5 .ensures)
 
 returns-12 : tie.Need-returns-12
-unfolding cost
+unfolding costBy
 returns-12 c = rw (c .before .before .c9 .given .1) (c .set6 .ensures)
 
 returns-13 : tie.Need-returns-13
-unfolding cost
+unfolding costBy
 returns-13 c = rw (c .before .before .c10 .given .1) (c .set7 .ensures)
 
 returns-14 : tie.Need-returns-14
-unfolding cost
+unfolding costBy
 returns-14 c = rw (c .before .before .c11 .given .1) (c .run-set .ensures)
 
 pub reads-set-spec : {M : Type 1} → statement M

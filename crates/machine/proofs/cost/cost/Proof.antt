@@ -2,7 +2,7 @@
 -- Assumes nothing.
 use native.Mathlib.Omega.{arith}
 use borrow.Author.Needs.{needs}
-use Rattle.model.specs.Costs.{cost}
+use Rattle.model.specs.Costs.{costBy}
 use Rattle.machine.proofs.Ranging.{ranged}
 use Rattle.machine.proofs.cost.cost.Statement.{statement}
 use Rattle.machine.proofs.cost.cost.Tie as tie
@@ -128,59 +128,59 @@ spending-requires-7 c κs =
     omega (arith, r .w-most)
 
 returns : tie.Need-returns
-unfolding cost
+unfolding costBy
 returns c = rw (c .before .enum-told .given .1) (c .spending .ensures)
 
 returns-2 : tie.Need-returns-2
-unfolding cost
+unfolding costBy
 returns-2 c = rw (c .before .enum-told2 .given .1) (c .counts .ensures)
 
 returns-3 : tie.Need-returns-3
-unfolding cost
+unfolding costBy
 returns-3 c = rw (c .before .enum-told3 .given .1) (c .spending2 .ensures)
 
 returns-4 : tie.Need-returns-4
-unfolding cost
+unfolding costBy
 returns-4 c = rw (c .before .enum-told4 .given .1) (c .spending3 .ensures)
 
 returns-5 : tie.Need-returns-5
-unfolding cost
+unfolding costBy
 returns-5 c = rw (c .before .enum-told5 .given .1) (c .spending4 .ensures)
 
 returns-6 : tie.Need-returns-6
-unfolding cost
+unfolding costBy
 returns-6 c = rw (c .before .enum-told6 .given .1) (c .spending5 .ensures)
 
 returns-7 : tie.Need-returns-7
-unfolding cost
+unfolding costBy
 returns-7 c = rw (c .before .enum-told7 .given .1) (c .spending6 .ensures)
 
 returns-8 : tie.Need-returns-8
-unfolding cost
+unfolding costBy
 returns-8 c = rw (c .before .before .c .given .1) (c .masking .ensures)
 
 returns-9 : tie.Need-returns-9
-unfolding cost
+unfolding costBy
 returns-9 c = rw (c .before .before .c2 .given .1) (c .masking2 .ensures)
 
 returns-10 : tie.Need-returns-10
-unfolding cost
+unfolding costBy
 returns-10 c = rw (c .before .before .c3 .given .1) (c .masking3 .ensures)
 
 returns-11 : tie.Need-returns-11
-unfolding cost
+unfolding costBy
 returns-11 c = rw (c .before .before .c4 .given .1) (c .masking4 .ensures)
 
 returns-12 : tie.Need-returns-12
-unfolding cost
+unfolding costBy
 returns-12 c = rw (c .before .before .c5 .given .1) (c .masking5 .ensures)
 
 returns-13 : tie.Need-returns-13
-unfolding cost
+unfolding costBy
 returns-13 c = rw (c .before .enum-told8 .given .1) (c .counts2 .ensures)
 
 returns-14 : tie.Need-returns-14
-unfolding cost
+unfolding costBy
 returns-14 c = rw (c .before .before .c6 .given .1) (c .spending7 .ensures)
 
 pub cost-spec : {M : Type 1} → statement M

@@ -4,12 +4,13 @@ use mathlib.Core.Path.{_≡_, refl, _∙_}
 use mathlib.Core.List.{[], _∷_}
 use lib.ListN.{length}
 use borrow.Author.Needs.{needs}
-use Rattle.model.specs.Costs.{cost}
-use Rattle.model.specs.Run.{register, made, perform, finish}
+use Rattle.model.specs.Commands.{command}
+use Rattle.model.specs.Costs.{costBy}
+use Rattle.model.specs.Run.{register}
 use Rattle.model.specs.Script.{ADD}
 use Rattle.model.specs.Steps.{plus}
 use Rattle.sheet.specs.Framed.{settingIn}
-use Rattle.machine.proofs.Keeping.{performs-put, made-left, register-is}
+use Rattle.machine.proofs.Keeping.{made, performs-put, made-left, register-is}
 use Rattle.machine.proofs.table.Table.add.Statement.{statement}
 use Rattle.machine.proofs.table.Table.add.Tie as tie
 
@@ -26,7 +27,7 @@ put-requires : tie.Need-put-requires
 put-requires c κs = search needs
 
 returns : tie.Need-returns
-unfolding finish perform cost plus
+unfolding command costBy plus
 returns c s log shown =
     let a = c .before .before .before .before .args in
     let h = c .before .before .before .before .pre in

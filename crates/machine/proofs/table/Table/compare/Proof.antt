@@ -7,10 +7,12 @@ use native.Mathlib.Omega.{arith}
 use lib.ListN.{length, length-take, length-drop}
 use borrow.Author.Needs.{needs}
 use Rattle.algebra.specs.Lists.{from}
-use Rattle.model.specs.Costs.{cost}
-use Rattle.model.specs.Run.{registersFrom, perform, finish}
+use Rattle.model.specs.Commands.{registersFrom, command}
+use Rattle.model.specs.Costs.{costBy}
+use Rattle.model.specs.Run.{noRow}
 use Rattle.model.specs.Script.{BITLT}
 use Rattle.model.specs.Steps.{Row, comparison}
+use Rattle.model.proofs.StepLaws.{comparison-does}
 use Rattle.sheet.specs.Framed.{settingIn}
 use Rattle.machine.proofs.Keeping.{performs-put}
 use Rattle.machine.proofs.Places.{n-most, t-most, field-of}
@@ -72,7 +74,7 @@ same-length : tie.Need-same-length
 same-length c = search needs
 
 returns : tie.Need-returns
-unfolding finish perform cost
+unfolding command costBy
 returns c shown =
     let s = c .before .before .before .before .before .before .before .before .before .before .before in
     let a = s .args in
@@ -83,10 +85,11 @@ returns c shown =
     let call = c .before .before .before .comparison in
     let l : length (call .result .shares) ≡ 7 = search (needs, call .ok) in
     performs-put (BITLT (a .d) (a .b) (a .w) (a .v)) (a .d) 0 0 (a .w - 1) (2 * (a .w - 1)) (from (a .b) (a .w)) (call .result .shares)
-    (λ x. comparison S (a .v) (registersFrom x (a .b) (a .w)) (x .deal)) refl (λ x. refl) (M .d-in) (n-most F) l (c .put .ensures) (λ log₀ shown₀ x H.
+    (λ x. comparison S (a .v) (registersFrom noRow (x .registers) (a .b) (a .w)) (x .deal)) refl (λ x. comparison-does S (a .v) _ _ (x .deal)) (M .d-in)
+    (n-most F) l (c .put .ensures) (λ log₀ shown₀ x H.
     let rows = bits-are H (a .b) (a .w) (M .last-in) in
     let E = call .ensures (a .f .l) (a .f .triples - a .self .spent .triples) (x .deal) (next-triples H (omega (arith, M .spends .triples)) (n .1)) (omega (arith, M .spends .triples)) in
-    step-left H E (took-bits S (n-most F) (a .v) (a .b) (a .w) x) (n .2) (M .spends .room)
+    step-left H E (took-bits S (n-most F) (a .v) (a .b) (a .w) (x .registers) (x .deal)) (n .2) (M .spends .room)
     (ap (λ (y : List Row). comparison S (a .v) y (x .deal)) rows))
 
 pub compare-spec : {M : Type 1} → statement M

@@ -4,12 +4,12 @@ use mathlib.Core.Path.{_≡_, refl}
 use mathlib.Core.List.{[]}
 use lib.ListN.{length}
 use borrow.Author.Needs.{needs}
-use Rattle.model.specs.Costs.{cost}
-use Rattle.model.specs.Run.{made, perform, finish}
+use Rattle.model.specs.Commands.{command}
+use Rattle.model.specs.Costs.{costBy}
 use Rattle.model.specs.Script.{CONST}
 use Rattle.model.specs.Steps.{constant}
 use Rattle.sheet.specs.Framed.{settingIn}
-use Rattle.machine.proofs.Keeping.{performs-put, made-left}
+use Rattle.machine.proofs.Keeping.{made, performs-put, made-left}
 use Rattle.machine.proofs.table.Table.fill.Statement.{statement}
 use Rattle.machine.proofs.table.Table.fill.Tie as tie
 
@@ -20,7 +20,7 @@ put-requires : tie.Need-put-requires
 put-requires c κs = search needs
 
 returns : tie.Need-returns
-unfolding finish perform cost constant
+unfolding command costBy constant
 returns c s log shown =
     let a = c .before .before .args in
     let h = c .before .before .pre in

@@ -6,11 +6,12 @@ use native.Mathlib.Omega.{arith}
 use lib.ListN.{length, getD}
 use denote.Ref.{now}
 use borrow.Author.Needs.{needs}
-use Rattle.model.specs.Costs.{cost}
-use Rattle.model.specs.Run.{Spent, noRow, made, perform, finish}
+use Rattle.model.specs.Commands.{command}
+use Rattle.model.specs.Costs.{costBy}
+use Rattle.model.specs.Run.{Spent, noRow}
 use Rattle.model.specs.Script.{LOAD}
 use Rattle.machine.specs.Holding.{inputsOf}
-use Rattle.machine.proofs.Keeping.{performs-put, made-left}
+use Rattle.machine.proofs.Keeping.{made, performs-put, made-left}
 use Rattle.machine.proofs.Places.{n-most, input-fits, input-at}
 use Rattle.machine.proofs.table.Table.load.Statement.{statement}
 use Rattle.machine.proofs.table.Table.load.Tie as tie
@@ -31,7 +32,7 @@ put-requires : tie.Need-put-requires
 put-requires c κs = search needs
 
 returns : tie.Need-returns
-unfolding finish perform cost
+unfolding command costBy
 returns c log shown =
     let a = c .before .before .before .before .before .before .args in
     let h = c .before .before .before .before .before .before .pre in

@@ -6,10 +6,12 @@ use Prim.Native.Nat.{_-_}
 use native.Mathlib.Omega.{arith}
 use lib.ListN.{length, length-take, length-drop}
 use borrow.Author.Needs.{needs}
-use Rattle.model.specs.Costs.{cost}
-use Rattle.model.specs.Run.{register, perform, finish}
+use Rattle.model.specs.Commands.{command}
+use Rattle.model.specs.Costs.{costBy}
+use Rattle.model.specs.Run.{register}
 use Rattle.model.specs.Script.{MUL}
 use Rattle.model.specs.Steps.{Row, product}
+use Rattle.model.proofs.StepLaws.{product-does}
 use Rattle.model.proofs.Taking.{took-product}
 use Rattle.sheet.specs.Framed.{settingIn}
 use Rattle.machine.proofs.Keeping.{performs-put, register-is}
@@ -58,7 +60,7 @@ same-length : tie.Need-same-length
 same-length c = search needs
 
 returns : tie.Need-returns
-unfolding finish perform cost
+unfolding command costBy
 returns c shown =
     let s = c .before .before .before .before .before .before .before .before .before .before in
     let a = s .args in
@@ -69,7 +71,8 @@ returns c shown =
     let call = c .before .before .before .product in
     let l : length (call .result .shares) ≡ 7 = search (needs, call .ok) in
     performs-put (MUL (a .d) (a .a) (a .b)) (a .d) 0 0 1 2 (a .a ∷ a .b ∷ []) (call .result .shares)
-    (λ x. product S (register x (a .a)) (register x (a .b)) (x .deal)) refl (λ x. refl) (M .d-in) (n-most F) l (c .put .ensures) (λ log₀ shown₀ x H.
+    (λ x. product S (register x (a .a)) (register x (a .b)) (x .deal)) refl (λ x. product-does S _ _ _ (x .deal)) (M .d-in) (n-most F) l
+    (c .put .ensures) (λ log₀ shown₀ x H.
     let x1 = c .before .before .before .before .before .before .row .ensures ∙ register-is H (a .a) (M .a-in) in
     let x2 = c .before .before .before .before .before .row2 .ensures ∙ register-is H (a .b) (M .b-in) in
     let E = call .ensures (a .f .l) (a .f .triples - a .self .spent .triples - 1) (x .deal) (next-triple H (M .spends .triples) (n .1)) in

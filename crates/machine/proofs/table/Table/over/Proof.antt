@@ -7,24 +7,23 @@ use native.Mathlib.Omega.{arith}
 use lib.ListN.{length}
 use denote.Ref.{now}
 use borrow.Author.Needs.{needs}
-use Rattle.model.specs.Costs.{cost}
-use Rattle.model.specs.Run.{perform, finish}
+use Rattle.model.specs.Commands.{command}
+use Rattle.model.specs.Costs.{costBy}
 use Rattle.model.specs.Script.{OVER}
-use Rattle.model.specs.Steps.{over}
+use Rattle.model.proofs.StepLaws.{over-does}
 use Rattle.model.proofs.Taking.{took-over}
 use Rattle.sheet.specs.Framed.{settingIn}
 use Rattle.sheet.specs.declared.frame.Frame.{Frame}
 use Rattle.script.proofs.InRange.{ranges}
 use Rattle.machine.specs.Holding.{Ready}
 use Rattle.machine.specs.declared.table.Table.{Table}
-use Rattle.machine.proofs.Places.{n-most}
 use Rattle.machine.proofs.Readiness.{Masked, sign-ready, next-fits, masked-room, masked-performs}
 use Rattle.machine.proofs.table.Table.over.Statement.{statement}
 use Rattle.machine.proofs.table.Table.over.Tie as tie
 
 -- what the command finds
 found : {s : List ℕ} {f : Frame} {log : ℕ} {t : Table} {d a k v : ℕ} → Ready s f log (OVER d a k v) t → Masked s f log t d a k (k - 1)
-unfolding cost
+unfolding costBy
 found {f = f} {d = d} {a} {k} {v} R = sign-ready (R .framed) (ranges (f .p) (f .largest) (OVER d a k v) (R .ranged) .0) (R .masks) (R .triples) (R .room)
 
 next-requires : tie.Need-next-requires
@@ -57,16 +56,15 @@ same-length : tie.Need-same-length
 same-length c = search needs
 
 returns : tie.Need-returns
-unfolding finish perform cost
+unfolding command costBy
 returns c shown =
     let s = c .before .before .before .before .before .before .before .before .before in
     let a = s .args in
-    let F = s .pre .framed in
-    let M = found (s .pre) in
+    let S = settingIn (a .f) in
     let call = c .before .before .before .over in
     let seven : length (call .result .shares) ≡ 7 = search (needs, call .ok) in
-    masked-performs (OVER (a .d) (a .a) (a .k) (a .v)) (over (settingIn (a .f)) (a .k) (a .v)) F M refl (λ x. refl)
-    (λ w e h. took-over (settingIn (a .f)) (n-most F) (a .k) (a .v) w e h (omega (arith, M .m-least)) (M .m-within)) (c .before .before .before .before .before .before .next .ensures) (c .before .before .before .before .before .row .ensures) (call .ensures) seven
+    masked-performs (s .pre) (found (s .pre)) refl (λ x. over-does S (a .k) (a .v) _ _ (x .deal)) (λ h. took-over S h (a .k) (a .v))
+    (c .before .before .before .before .before .before .next .ensures) (c .before .before .before .before .before .row .ensures) (call .ensures) seven
     (c .put .ensures)
 
 pub over-spec : {M : Type 1} → statement M

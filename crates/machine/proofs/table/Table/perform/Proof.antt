@@ -6,8 +6,7 @@ use native.Mathlib.Omega.{arith}
 use lib.ListN.{length}
 use denote.Ref.{now}
 use borrow.Author.Needs.{needs}
-use Rattle.model.specs.Costs.{cost}
-use Rattle.model.specs.Run.{perform, finish}
+use Rattle.model.specs.Costs.{costBy}
 use Rattle.machine.proofs.Keeping.{holds-idle}
 use Rattle.machine.proofs.Places.{n-most, field-of}
 use Rattle.machine.proofs.Ranging.{ranged, readied}
@@ -21,7 +20,7 @@ enum-known-c : tie.Need-enum-known-c
 enum-known-c c = search needs
 
 load-requires : tie.Need-load-requires
-unfolding cost
+unfolding costBy
 load-requires c κs =
     let s = c .before .before .before .before .before .before in
     let e = c .before .c .given .1 in
@@ -113,7 +112,7 @@ enum-known-c-12 : tie.Need-enum-known-c-12
 enum-known-c-12 c = search needs
 
 reveal-requires : tie.Need-reveal-requires
-unfolding cost
+unfolding costBy
 reveal-requires c κs =
     let s = c .before .before .before .before .before .before .before .before in
     let e = c .before .before .before .c12 .given .1 in
@@ -127,7 +126,6 @@ compare-requires : tie.Need-compare-requires
 compare-requires c κs = readied (c .before .before .before .before .before .before .before .pre .0) (c .before .before .c13 .given .1)
 
 returns : tie.Need-returns
-unfolding cost finish perform
 returns c = rw (c .enum-told .given .1) (refl, λ log₀ shown₀ x H. holds-idle H)
 
 returns-2 : tie.Need-returns-2

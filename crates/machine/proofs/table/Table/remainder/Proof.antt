@@ -7,24 +7,23 @@ use native.Mathlib.Omega.{arith}
 use lib.ListN.{length}
 use denote.Ref.{now}
 use borrow.Author.Needs.{needs}
-use Rattle.model.specs.Costs.{cost}
-use Rattle.model.specs.Run.{perform, finish}
+use Rattle.model.specs.Commands.{command}
+use Rattle.model.specs.Costs.{costBy}
 use Rattle.model.specs.Script.{MOD}
-use Rattle.model.specs.Steps.{remainder}
+use Rattle.model.proofs.StepLaws.{remainder-does}
 use Rattle.model.proofs.Taking.{took-remainder}
 use Rattle.sheet.specs.Framed.{settingIn}
 use Rattle.sheet.specs.declared.frame.Frame.{Frame}
 use Rattle.script.proofs.InRange.{ranges}
 use Rattle.machine.specs.Holding.{Ready}
 use Rattle.machine.specs.declared.table.Table.{Table}
-use Rattle.machine.proofs.Places.{n-most}
 use Rattle.machine.proofs.Readiness.{Masked, blocks-ready, next-fits, masked-room, masked-performs}
 use Rattle.machine.proofs.table.Table.remainder.Statement.{statement}
 use Rattle.machine.proofs.table.Table.remainder.Tie as tie
 
 -- what the command finds
 found : {s : List ℕ} {f : Frame} {log : ℕ} {t : Table} {d a k m : ℕ} → Ready s f log (MOD d a k m) t → Masked s f log t d a k m
-unfolding cost
+unfolding costBy
 found {f = f} {d = d} {a} {k} {m} R = blocks-ready (R .framed) (ranges (f .p) (f .largest) (MOD d a k m) (R .ranged)) (R .masks) (R .triples) (R .room)
 
 next-requires : tie.Need-next-requires
@@ -57,16 +56,15 @@ same-length : tie.Need-same-length
 same-length c = search needs
 
 returns : tie.Need-returns
-unfolding finish perform cost
+unfolding command costBy
 returns c shown =
     let s = c .before .before .before .before .before .before .before .before .before in
     let a = s .args in
-    let F = s .pre .framed in
-    let M = found (s .pre) in
+    let S = settingIn (a .f) in
     let call = c .before .before .before .remainder in
     let seven : length (call .result .shares) ≡ 7 = search (needs, call .ok) in
-    masked-performs (MOD (a .d) (a .a) (a .k) (a .m)) (remainder (settingIn (a .f)) (a .k) (a .m)) F M refl (λ x. refl)
-    (λ w e h. took-remainder (settingIn (a .f)) (n-most F) (a .k) (a .m) w e h (M .m-least) (M .m-within)) (c .before .before .before .before .before .before .next .ensures) (c .before .before .before .before .before .row .ensures) (call .ensures) seven
+    masked-performs (s .pre) (found (s .pre)) refl (λ x. remainder-does S (a .k) (a .m) _ _ (x .deal)) (λ h. took-remainder S h (a .k) (a .m))
+    (c .before .before .before .before .before .before .next .ensures) (c .before .before .before .before .before .row .ensures) (call .ensures) seven
     (c .put .ensures)
 
 pub remainder-spec : {M : Type 1} → statement M

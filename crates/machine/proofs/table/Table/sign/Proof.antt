@@ -7,24 +7,23 @@ use native.Mathlib.Omega.{arith}
 use lib.ListN.{length}
 use denote.Ref.{now}
 use borrow.Author.Needs.{needs}
-use Rattle.model.specs.Costs.{cost}
-use Rattle.model.specs.Run.{perform, finish}
+use Rattle.model.specs.Commands.{command}
+use Rattle.model.specs.Costs.{costBy}
 use Rattle.model.specs.Script.{LTZ}
-use Rattle.model.specs.Steps.{sign}
+use Rattle.model.proofs.StepLaws.{sign-does}
 use Rattle.model.proofs.Taking.{took-sign}
 use Rattle.sheet.specs.Framed.{settingIn}
 use Rattle.sheet.specs.declared.frame.Frame.{Frame}
 use Rattle.script.proofs.InRange.{ranges}
 use Rattle.machine.specs.Holding.{Ready}
 use Rattle.machine.specs.declared.table.Table.{Table}
-use Rattle.machine.proofs.Places.{n-most}
 use Rattle.machine.proofs.Readiness.{Masked, sign-ready, next-fits, masked-room, masked-performs}
 use Rattle.machine.proofs.table.Table.sign.Statement.{statement}
 use Rattle.machine.proofs.table.Table.sign.Tie as tie
 
 -- what the command finds
 found : {s : List ℕ} {f : Frame} {log : ℕ} {t : Table} {d a k : ℕ} → Ready s f log (LTZ d a k) t → Masked s f log t d a k (k - 1)
-unfolding cost
+unfolding costBy
 found {f = f} {d = d} {a} {k} R = sign-ready (R .framed) (ranges (f .p) (f .largest) (LTZ d a k) (R .ranged)) (R .masks) (R .triples) (R .room)
 
 next-requires : tie.Need-next-requires
@@ -57,16 +56,15 @@ same-length : tie.Need-same-length
 same-length c = search needs
 
 returns : tie.Need-returns
-unfolding finish perform cost
+unfolding command costBy
 returns c shown =
     let s = c .before .before .before .before .before .before .before .before .before in
     let a = s .args in
-    let F = s .pre .framed in
-    let M = found (s .pre) in
+    let S = settingIn (a .f) in
     let call = c .before .before .before .sign in
     let seven : length (call .result .shares) ≡ 7 = search (needs, call .ok) in
-    masked-performs (LTZ (a .d) (a .a) (a .k)) (sign (settingIn (a .f)) (a .k)) F M refl (λ x. refl)
-    (λ w e h. took-sign (settingIn (a .f)) (n-most F) (a .k) w e h (omega (arith, M .m-least)) (M .m-within)) (c .before .before .before .before .before .before .next .ensures) (c .before .before .before .before .before .row .ensures) (call .ensures) seven
+    masked-performs (s .pre) (found (s .pre)) refl (λ x. sign-does S (a .k) _ _ (x .deal)) (λ h. took-sign S h (a .k))
+    (c .before .before .before .before .before .before .next .ensures) (c .before .before .before .before .before .row .ensures) (call .ensures) seven
     (c .put .ensures)
 
 pub sign-spec : {M : Type 1} → statement M

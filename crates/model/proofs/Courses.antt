@@ -1,0 +1,181 @@
+-- Commands are determined: what they reveal and leave are the plain interpreter's values. The lines of a script are determined too: what they mask, take
+-- and reveal does not depend on the deal.
+-- Assumes nothing.
+use mathlib.Core.Path.{_≡_, refl, ap, ap₂, _∙_}
+use mathlib.Core.Bool.{_&&_}
+use mathlib.Core.List.{List, [], _∷_, _++_, List·Memᴰ as In, List·Memᴰ·head as here}
+use Prim.Native.Nat.{ℕ, zero, suc, _+_, _-_, _^_, _<_}
+use native.Mathlib.Omega.{arith}
+use lib.Dec.{T, ltb, ltb→lt}
+use lib.ListN.{length, getD, set, length-set, length-append}
+use lib.Seq.{getD-set-other}
+use Rattle.algebra.specs.Ring.{add, sub}
+use Rattle.algebra.specs.Lists.{All, none, one}
+use Rattle.algebra.proofs.Tests.{and-left, and-right}
+use Rattle.model.specs.Fields.{Modulus, Parties}
+use Rattle.model.specs.Deal.{noRow}
+use Rattle.model.specs.Trees.{Tree, done, Remainder, RemainderBy, comparison, floor, sign, over, blocks}
+use Rattle.model.specs.Steps.{Setting, Row, rowOps}
+use Rattle.model.specs.Script.{Command, END, LOAD, CONST, ADD, SUB, SCALE, MUL, MOD, TRUNC, LTZ, OVER, BLOCKS, REVEAL, BITLT, Line, register, kIn, inRanges}
+use Rattle.model.specs.Costs.{costBy}
+use Rattle.model.specs.Checks.{Spent, Supply, check, pay}
+use Rattle.model.specs.Commands.{Ended, orStop, overLines, registersFrom, command, lines}
+use Rattle.model.specs.Sheet.{secrets}
+use Rattle.model.specs.Plain.{quot, negative, exceeds, charged, valuesFrom, plainly, reveals}
+use Rattle.model.specs.Results.{target}
+use Rattle.model.proofs.Each.{no-more, and, each-at, each-set}
+use Rattle.model.proofs.Operands.{Ranges, ranges, sign-ranges}
+use Rattle.model.proofs.Shared.{Shared, Shareds, shared-plus, shared-minus, shared-times, shared-constant, shared-zero}
+use Rattle.model.proofs.Determined.{Determined, d-done, d-multiply, d-reveal, recount, determined-comparison}
+use Rattle.model.proofs.Masked.{DeterminedMod}
+use Rattle.model.proofs.Checks.{tally}
+
+-- rows that share values, where an unset register is a sharing of 0
+module _ {S : Setting} (Z : Shared S 0 noRow) where
+  pub shareds-at : {vs : List ℕ} {g : List Row} → Shareds S vs g → (r : ℕ) → Shared S (getD vs r 0) (getD g r noRow)
+  shareds-at G r = each-at G Z r
+
+  shareds-from : {vs : List ℕ} {g : List Row} → Shareds S vs g → (b w : ℕ) → Shareds S (valuesFrom vs b w) (registersFrom noRow g b w)
+  unfolding valuesFrom registersFrom
+  shareds-from G b zero = no-more
+  shareds-from G b (suc w) = and (shareds-at G b) (shareds-from G (suc b) w)
+
+pub length-values : (vs : List ℕ) (b w : ℕ) → length (valuesFrom vs b w) ≡ w
+unfolding valuesFrom
+length-values vs b zero = refl
+length-values vs b (suc w) = ap suc (length-values vs (suc b) w)
+
+-- the registers w, where g was: those of the list ds alone are new
+pub record OthersStay (ds : List ℕ) (g w : List Row) : Type 0 where
+  pub many : length w ≡ length g
+  pub others : (r : ℕ) → (In r ds → ⊥) → getD w r noRow ≡ getD g r noRow
+
+kept : (ds : List ℕ) (g : List Row) → OthersStay ds g g
+kept ds g = record { many = refl; others = λ r n. refl }
+
+put : {S : Setting} {vs : List ℕ} {g : List Row} {v : ℕ} {x : Row} (d : ℕ) → Shareds S vs g → Shared S v x
+    → Shareds S (set vs d v) (set g d x) × OthersStay (d ∷ []) g (set g d x)
+put {g = g} {x = x} d G X =
+    (each-set d G X, record { many = length-set g d x; others = λ r n. getD-set-other g d r x noRow (λ e. n (here e)) })
+
+-- the number that is masked: "X = (a + 2^(k−1)) modulo p"
+abbrev shifted : ℕ → ℕ → ℕ → ℕ
+shifted p k a = add p a (2 ^ (k - 1))
+
+-- A command on registers that share the values vs: the numbers that it masks, a mask for each; it takes the triples that it costs, reveals the plain
+-- interpreter's values, and leaves registers that share the plain interpreter's values, its target alone being new.
+pub record Course (S : Setting) (B : ℕ) (triples : ℕ → ℕ) (input : List Row) (j : ℕ) (c : Command) (vs : List ℕ) {A : Type 0} (Q : A → Type 0)
+    (remainder : RemainderBy Row A) : Type 0 where
+  pub numbers : List ℕ
+  pub masks : length numbers ≡ costBy triples c .masks
+  pub values : length (reveals c vs) ≡ costBy triples c .revealed
+  pub determined : {xs : List ℕ} {n : ℕ} {ss : List ℕ} (g : List Row) → Shareds S vs g → (go : List Row → Tree Row A)
+      → ((w : List Row) → Shareds S (plainly (S .p) (secrets S input) j c vs) w × OthersStay (target c) g w → Determined S B Q xs n ss (go w))
+      → Determined S B Q (numbers ++ xs) (costBy triples c .triples + n) (reveals c vs ++ ss) (command (S .p) (rowOps S) noRow remainder input j c g go)
+
+module _ (S : Setting) (M : Modulus (S .p)) (P : Parties (S .n) (S .t)) (Z : Shared S 0 noRow) {B K : ℕ} {triples : ℕ → ℕ} where
+  -- what rests on MOD
+  module _ {A : Type 0} {Q : A → Type 0} {MOD : Remainder Row A} (D : DeterminedMod S B K Q triples MOD) {xs : List ℕ} {n : ℕ} {vs : List ℕ} {go : Row → Tree Row A} where
+    determined-floor : (k m : ℕ) → Ranges K k m → {a : ℕ} {x : Row} → Shared S a x
+        → ((z : Row) → Shared S (quot (S .p) k m a) z → Determined S B Q xs n vs (go z))
+        → Determined S B Q (shifted (S .p) k a ∷ xs) (triples m + n) vs (floor (S .p) (rowOps S) MOD k m x go)
+    unfolding floor quot
+    determined-floor k m R X h = D .determined k m R X (λ z Y. h _ (shared-times S M P _ (shared-minus S M P X Y)))
+
+  module _ {A : Type 0} {Q : A → Type 0} {MOD : Remainder Row A} (D : DeterminedMod S B K Q triples MOD) {xs : List ℕ} {n : ℕ} {vs : List ℕ} {go : Row → Tree Row A} where
+    determined-sign : (k : ℕ) → Ranges K k (k - 1) → {a : ℕ} {x : Row} → Shared S a x
+        → ((z : Row) → Shared S (negative (S .p) k a) z → Determined S B Q xs n vs (go z))
+        → Determined S B Q (shifted (S .p) k a ∷ xs) (triples (k - 1) + n) vs (sign (S .p) (rowOps S) MOD k x go)
+    unfolding sign negative
+    determined-sign k R X h = determined-floor D k (k - 1) R X (λ z Y. h _ (shared-minus S M P (shared-zero S M P) Y))
+
+    determined-blocks : (k m : ℕ) → Ranges K k m → {a : ℕ} {x : Row} → Shared S a x
+        → ((z : Row) → Shared S (charged (S .p) k m a) z → Determined S B Q xs n vs (go z))
+        → Determined S B Q (shifted (S .p) k a ∷ xs) (triples m + n) vs (blocks (S .p) (rowOps S) MOD k m x go)
+    unfolding blocks charged
+    determined-blocks k m R X h = determined-floor D k m R X h
+
+  module _ {A : Type 0} {Q : A → Type 0} {MOD : Remainder Row A} (D : DeterminedMod S B K Q triples MOD) {xs : List ℕ} {n : ℕ} {vs : List ℕ} {go : Row → Tree Row A} where
+    determined-over : (k v : ℕ) → Ranges K k (k - 1) → v < S .p → {a : ℕ} {x : Row} → Shared S a x
+        → ((z : Row) → Shared S (exceeds (S .p) k v a) z → Determined S B Q xs n vs (go z))
+        → Determined S B Q (shifted (S .p) k (sub (S .p) v a) ∷ xs) (triples (k - 1) + n) vs (over (S .p) (rowOps S) MOD k v x go)
+    unfolding over exceeds
+    determined-over k v R l X h = determined-sign D k R (shared-minus S M P (shared-constant S M P l) X) h
+
+  module _ {input : List Row} (I : Shareds S (secrets S input) input) where
+    module _ {A : Type 0} {Q : A → Type 0} (remainder : RemainderBy Row A) (D : DeterminedMod S B K Q triples (remainder (comparison (rowOps S)))) (j : ℕ) (vs : List ℕ) where
+      pub course : (c : Command) → T (inRanges (S .p) K c) → Course S B triples input j c vs Q remainder
+      unfolding command costBy plainly reveals target inRanges
+      course END ok = record { numbers = []; masks = refl; values = refl; determined = λ g G go h. recount (omega arith) (h g (G, kept [] g)) }
+      course (LOAD d) ok = record { numbers = []; masks = refl; values = refl; determined = λ g G go h. recount (omega arith) (h _ (put d G (shareds-at Z I j))) }
+      course (CONST d v) ok =
+          let X = shared-constant S M P (ltb→lt v (S .p) (and-right (register d) _ ok)) in
+          record { numbers = []; masks = refl; values = refl; determined = λ g G go h. recount (omega arith) (h _ (put d G X)) }
+      course (ADD d a b) ok =
+          record { numbers = []; masks = refl; values = refl; determined = λ g G go h. recount (omega arith) (h _ (put d G (shared-plus S M P (shareds-at Z G a) (shareds-at Z G b)))) }
+      course (SUB d a b) ok =
+          record { numbers = []; masks = refl; values = refl; determined = λ g G go h. recount (omega arith) (h _ (put d G (shared-minus S M P (shareds-at Z G a) (shareds-at Z G b)))) }
+      course (SCALE d a v) ok =
+          record { numbers = []; masks = refl; values = refl; determined = λ g G go h. recount (omega arith) (h _ (put d G (shared-times S M P v (shareds-at Z G a)))) }
+      course (MUL d a b) ok =
+          record {
+            numbers = [];
+            masks = refl;
+            values = refl;
+            determined = λ {xs} {n} g G go h. recount {n = suc n} (omega arith) (d-multiply (shareds-at Z G a) (shareds-at Z G b) (λ z X. h _ (put d G X)));
+          }
+      course (MOD d a k m) ok =
+          record { numbers = shifted (S .p) k (getD vs a 0) ∷ []; masks = refl; values = refl; determined = λ g G go h. D .determined k m (ranges K d a k m ok) (shareds-at Z G a) (λ z X. h _ (put d G X)) }
+      course (TRUNC d a k m) ok =
+          record { numbers = shifted (S .p) k (getD vs a 0) ∷ []; masks = refl; values = refl; determined = λ g G go h. determined-floor D k m (ranges K d a k m ok) (shareds-at Z G a) (λ z X. h _ (put d G X)) }
+      course (LTZ d a k) ok =
+          record { numbers = shifted (S .p) k (getD vs a 0) ∷ []; masks = refl; values = refl; determined = λ g G go h. determined-sign D k (sign-ranges K d a k ok) (shareds-at Z G a) (λ z X. h _ (put d G X)) }
+      course (OVER d a k v) ok =
+          let rs = register d && register a && kIn K k in
+          let R = sign-ranges K d a k (and-left rs (ltb v (S .p)) ok) in
+          let l = ltb→lt v (S .p) (and-right rs (ltb v (S .p)) ok) in
+          record { numbers = shifted (S .p) k (sub (S .p) v (getD vs a 0)) ∷ []; masks = refl; values = refl; determined = λ g G go h. determined-over D k v R l (shareds-at Z G a) (λ z X. h _ (put d G X)) }
+      course (BLOCKS d a k m) ok =
+          record { numbers = shifted (S .p) k (getD vs a 0) ∷ []; masks = refl; values = refl; determined = λ g G go h. determined-blocks D k m (ranges K d a k m ok) (shareds-at Z G a) (λ z X. h _ (put d G X)) }
+      course (REVEAL a) ok =
+          record { numbers = []; masks = refl; values = refl; determined = λ g G go h. recount (omega arith) (d-reveal (shareds-at Z G a) (h g (G, kept [] g))) }
+      course (BITLT d b w v) ok =
+          record {
+            numbers = [];
+            masks = refl;
+            values = refl;
+            determined = λ {xs} {n} g G go h. recount {n = (length (valuesFrom vs b w) - 1) + n} (omega (arith, length-values vs b w))
+                (determined-comparison S M P v (shareds-from Z G b w) (λ z X. h _ (put d G X)));
+          }
+
+-- A tree for each list of registers, where these share the values vs: it takes so many masks and triples, and masks and reveals the same values,
+-- whatever the registers and the deal.
+pub record TreeCourse (S : Setting) (B : ℕ) (vs : List ℕ) (masks triples : ℕ) (T : List Row → Tree Row (Ended Row)) : Type 0 where
+  pub numbers : List ℕ
+  pub shown : List ℕ
+  pub many : length numbers ≡ masks
+  pub determined : (g : List Row) → Shareds S vs g → Determined S B (λ e. Unit {0}) numbers triples shown (T g)
+
+stop-course : {S : Setting} {B : ℕ} {vs : List ℕ} {m n : ℕ} {T : List Row → Tree Row (Ended Row)} (number : ℕ) (e : List Row → Ended Row) → TreeCourse S B vs m n T
+    → TreeCourse S B vs (orStop number 0 m) (orStop number 0 n) (λ g. orStop number (done (e g)) (T g))
+stop-course zero e C = C
+stop-course (suc number) e C = record { numbers = []; shown = []; many = refl; determined = λ g G. d-done tt }
+
+-- the lines of a script: the masks and triples that the finished commands cost
+module _ (S : Setting) (M : Modulus (S .p)) (P : Parties (S .n) (S .t)) (Z : Shared S 0 noRow) {B K : ℕ} {triples : ℕ → ℕ} (remainder : RemainderBy Row (Ended Row))
+    (D : DeterminedMod S B K (λ (e : Ended Row). Unit {0}) triples (remainder (comparison (rowOps S)))) (u : Supply) {input : List Row} (I : Shareds S (secrets S input) input) (end : ℕ) where
+  pub lines-course : {xs : List Line} → All (λ x. T (inRanges (S .p) K (x .command))) xs → (s : Spent) (vs : List ℕ)
+      → TreeCourse S B vs (tally triples u (λ c. c .masks) xs s) (tally triples u (λ c. c .triples) xs s) (lines (S .p) (rowOps S) noRow remainder triples u input end xs s)
+  unfolding overLines tally
+  lines-course none s vs = record { numbers = []; shown = []; many = refl; determined = λ g G. d-done tt }
+  lines-course (one {x = x} {xs = xs} ok oks) s vs =
+      let c = costBy triples (x .command) in
+      let C = course S M P Z I remainder D (s .inputs) vs (x .command) ok in
+      let rest = lines-course oks (pay c s) (plainly (S .p) (secrets S input) (s .inputs) (x .command) vs) in
+      stop-course (check u c s) _
+      (record {
+        numbers = C .numbers ++ rest .numbers;
+        shown = reveals (x .command) vs ++ rest .shown;
+        many = length-append (C .numbers) (rest .numbers) ∙ ap₂ _+_ (C .masks) (rest .many);
+        determined = λ g G. C .determined g G _ (λ w W. rest .determined w (W .0));
+      })

@@ -1,0 +1,162 @@
+-- One text with two kinds of operand: from operands in pairs, the two trees of a step, a command or a script's lines are in pairs, node by node. Shown
+-- once for every relation of operands that sums, differences, multiples and constants keep.
+-- Assumes nothing.
+use mathlib.Core.Path.{_≡_, refl}
+use mathlib.Core.Bool.{Bool, true, false, cond}
+use mathlib.Core.List.{List, [], _∷_}
+use Prim.Native.Nat.{ℕ, zero, suc, _-_, _/_}
+use Rattle.algebra.specs.Ring.{mul}
+use Rattle.model.specs.Script.{Command, END, LOAD, CONST, ADD, SUB, SCALE, MUL, MOD, TRUNC, LTZ, OVER, BLOCKS, REVEAL, BITLT, Line}
+use Rattle.model.specs.Trees.{Ops, Tree, done, multiply, mask, reveal, Comparison, Remainder, RemainderBy, odd, beaver, chosen, spelled, unmasked, comparisonFrom, comparison, remainder, floor, sign, over, blocks}
+use Rattle.model.specs.Costs.{costBy}
+use Rattle.model.specs.Checks.{Spent, Supply, check, pay}
+use Rattle.model.specs.Commands.{Ended, orStop, overLines, registersFrom, command, lines}
+use Rattle.model.proofs.Each.{Each, no-more, and, each-take, each-at, each-set}
+
+-- The two trees do the same with paired operands, go on in pairs from whatever they are given in pairs, and end with results that R relates.
+pub data Paired {X Y A B : Type 0} (E : X → Y → Type 0) (R : A → B → Type 0) : Tree X A → Tree Y B → Type 0 where
+  p-done : {a : A} {b : B} → R a b → Paired E R (done a) (done b)
+  p-multiply : {x y : X} {x′ y′ : Y} {go : X → Tree X A} {go′ : Y → Tree Y B} → E x x′ → E y y′
+      → ((z : X) (z′ : Y) → E z z′ → Paired E R (go z) (go′ z′)) → Paired E R (multiply x y go) (multiply x′ y′ go′)
+  p-mask : {x : X} {x′ : Y} {go : ℕ → List X → Tree X A} {go′ : ℕ → List Y → Tree Y B} → E x x′
+      → ((C : ℕ) (b : List X) (b′ : List Y) → Each E b b′ → Paired E R (go C b) (go′ C b′)) → Paired E R (mask x go) (mask x′ go′)
+  p-reveal : {x : X} {x′ : Y} {T : Tree X A} {T′ : Tree Y B} → E x x′ → Paired E R T T′ → Paired E R (reveal x T) (reveal x′ T′)
+
+paired-stop : {X Y A B : Type 0} {E : X → Y → Type 0} {R : A → B → Type 0} (n : ℕ) {T U : Tree X A} {T′ U′ : Tree Y B} → Paired E R T T′
+    → Paired E R U U′ → Paired E R (orStop n T U) (orStop n T′ U′)
+paired-stop zero stop go = go
+paired-stop (suc n) stop go = stop
+
+-- two ways to go on are in pairs, from whatever F relates
+abbrev pub PairedAfter : {X Y A B C D : Type 0} → (X → Y → Type 0) → (A → B → Type 0) → (C → D → Type 0) → (C → Tree X A) → (D → Tree Y B) → Type 0
+PairedAfter {C = C} {D = D} E R F go go′ = (z : C) (z′ : D) → F z z′ → Paired E R (go z) (go′ z′)
+
+-- two BITLTs, and two MODs, in pairs
+pub record PairedComparison {X Y A B : Type 0} (E : X → Y → Type 0) (R : A → B → Type 0) (lt : Comparison X A) (lt′ : Comparison Y B) : Type 0 where
+  pub pair : (v : ℕ) {xs : List X} {xs′ : List Y} {go : X → Tree X A} {go′ : Y → Tree Y B} → Each E xs xs′ → PairedAfter E R E go go′
+      → Paired E R (lt v xs go) (lt′ v xs′ go′)
+
+pub record PairedMod {X Y A B : Type 0} (E : X → Y → Type 0) (R : A → B → Type 0) (f : Remainder X A) (f′ : Remainder Y B) : Type 0 where
+  pub pair : (k m : ℕ) {a : X} {a′ : Y} {go : X → Tree X A} {go′ : Y → Tree Y B} → E a a′ → PairedAfter E R E go go′
+      → Paired E R (f k m a go) (f′ k m a′ go′)
+
+-- two ends of a run
+pub record PairedEnds {X Y : Type 0} (E : X → Y → Type 0) (e : Ended X) (e′ : Ended Y) : Type 0 where
+  pub number : e .number ≡ e′ .number
+  pub place : e .place ≡ e′ .place
+  pub spent : e .spent ≡ e′ .spent
+  pub registers : Each E (e .registers) (e′ .registers)
+
+-- the operations keep the relation
+pub record Keep {X Y : Type 0} (E : X → Y → Type 0) (O : Ops X) (O′ : Ops Y) : Type 0 where
+  pub plus : {x y : X} {x′ y′ : Y} → E x x′ → E y y′ → E (O .plus x y) (O′ .plus x′ y′)
+  pub minus : {x y : X} {x′ y′ : Y} → E x x′ → E y y′ → E (O .minus x y) (O′ .minus x′ y′)
+  pub times : (c : ℕ) {x : X} {x′ : Y} → E x x′ → E (O .times c x) (O′ .times c x′)
+  pub constant : (v : ℕ) → E (O .constant v) (O′ .constant v)
+
+module _ (p : ℕ) {X Y : Type 0} {E : X → Y → Type 0} {O : Ops X} {O′ : Ops Y} (K : Keep E O O′) where
+  pub paired-beaver : (a1 b1 : ℕ) {a b c : X} {a′ b′ c′ : Y} → E a a′ → E b b′ → E c c′ → E (beaver p O a1 b1 a b c) (beaver p O′ a1 b1 a′ b′ c′)
+  paired-beaver a1 b1 ea eb ec = K .plus (K .plus (K .plus ec (K .times a1 eb)) (K .times b1 ea)) (K .constant (mul p a1 b1))
+
+  pub paired-spelled : {xs : List X} {ys : List Y} → Each E xs ys → E (spelled O xs) (spelled O′ ys)
+  unfolding spelled
+  paired-spelled no-more = K .constant 0
+  paired-spelled (and e es) = K .plus e (K .times 2 (paired-spelled es))
+
+  paired-chosen : (one : Bool) {x y q : X} {x′ y′ q′ : Y} → E x x′ → E y y′ → E q q′ → E (chosen O one x y q) (chosen O′ one x′ y′ q′)
+  paired-chosen true ex ey eq = eq
+  paired-chosen false ex ey eq = K .minus (K .plus ex ey) eq
+
+  paired-start : (one : Bool) {x : X} {x′ : Y} → E x x′ → E (cond one (O .constant 0) x) (cond one (O′ .constant 0) x′)
+  paired-start true ex = K .constant 0
+  paired-start false ex = ex
+
+  paired-unmasked : (m C : ℕ) {r : List X} {r′ : List Y} {f u : X} {f′ u′ : Y} → Each E r r′ → E f f′ → E u u′
+      → E (unmasked p O m C r f u) (unmasked p O′ m C r′ f′ u′)
+  paired-unmasked m C er ef eu = K .plus (K .minus (K .plus (K .constant _) (K .times _ ef)) (paired-spelled (each-take m er))) (K .times _ eu)
+
+  module _ {A B : Type 0} {R : A → B → Type 0} where
+    paired-from : (v : ℕ) {xs : List X} {xs′ : List Y} {y : X} {y′ : Y} {go : X → Tree X A} {go′ : Y → Tree Y B} → Each E xs xs′ → E y y′
+        → PairedAfter E R E go go′ → Paired E R (comparisonFrom O v xs y go) (comparisonFrom O′ v xs′ y′ go′)
+    unfolding comparisonFrom
+    paired-from v no-more ey h = h _ _ ey
+    paired-from v (and e es) ey h = p-multiply e ey λ q q′ eq. paired-from (v / 2) es (paired-chosen (odd v) e ey eq) h
+
+    paired-bits : (v : ℕ) {xs : List X} {xs′ : List Y} {go : X → Tree X A} {go′ : Y → Tree Y B} → Each E xs xs′ → PairedAfter E R E go go′
+        → Paired E R (comparison O v xs go) (comparison O′ v xs′ go′)
+    unfolding comparison
+    paired-bits v no-more h = h _ _ (K .constant 0)
+    paired-bits v (and e es) h = paired-from (v / 2) es (paired-start (odd v) e) h
+
+    pub paired-comparison : PairedComparison E R (comparison O) (comparison O′)
+    paired-comparison = record { pair = paired-bits }
+
+    pub paired-remainder : {lt : Comparison X A} {lt′ : Comparison Y B} → PairedComparison E R lt lt′
+        → PairedMod E R (remainder p O lt) (remainder p O′ lt′)
+    unfolding remainder
+    paired-remainder H =
+        record {
+          pair = λ k m ea h.
+              p-mask (K .plus ea (K .constant _)) λ C r r′ er.
+              H .pair _ er λ f f′ ef.
+              H .pair _ (each-take m er) λ u0 u0′ e0.
+              H .pair _ (each-take m er) λ u1 u1′ e1.
+              p-multiply ef (K .minus e1 e0) λ g g′ eg.
+              h _ _ (paired-unmasked m C er ef (K .plus e0 eg));
+        }
+
+    module _ {f : Remainder X A} {f′ : Remainder Y B} (H : PairedMod E R f f′) where
+      pub paired-floor : PairedMod E R (floor p O f) (floor p O′ f′)
+      unfolding floor
+      paired-floor = record { pair = λ k m ea h. H .pair k m ea λ z z′ e. h _ _ (K .times _ (K .minus ea e)) }
+
+      pub paired-sign : (k : ℕ) {a : X} {a′ : Y} {go : X → Tree X A} {go′ : Y → Tree Y B} → E a a′ → PairedAfter E R E go go′
+          → Paired E R (sign p O f k a go) (sign p O′ f′ k a′ go′)
+      unfolding sign
+      paired-sign k ea h = paired-floor .pair k (k - 1) ea λ z z′ e. h _ _ (K .minus (K .constant 0) e)
+
+      pub paired-over : (k v : ℕ) {a : X} {a′ : Y} {go : X → Tree X A} {go′ : Y → Tree Y B} → E a a′ → PairedAfter E R E go go′
+          → Paired E R (over p O f k v a go) (over p O′ f′ k v a′ go′)
+      unfolding over
+      paired-over k v ea h = paired-sign k (K .minus (K .constant v) ea) h
+
+      pub paired-blocks : PairedMod E R (blocks p O f) (blocks p O′ f′)
+      unfolding blocks
+      paired-blocks = record { pair = λ k m ea h. paired-floor .pair k m ea h }
+
+  -- commands and lines, from registers in pairs; unset registers are a pair too
+  module _ {unset : X} {unset′ : Y} (e0 : E unset unset′) where
+    from-registers : {g : List X} {g′ : List Y} → Each E g g′ → (b w : ℕ) → Each E (registersFrom unset g b w) (registersFrom unset′ g′ b w)
+    unfolding registersFrom
+    from-registers gs b zero = no-more
+    from-registers gs b (suc w) = and (each-at gs e0 b) (from-registers gs (suc b) w)
+
+    pub paired-command : {A B : Type 0} {R : A → B → Type 0} (f : RemainderBy X A) (f′ : RemainderBy Y B) → PairedMod E R (f (comparison O)) (f′ (comparison O′))
+        → {input : List X} {input′ : List Y} → Each E input input′ → (j : ℕ) (c : Command) {g : List X} {g′ : List Y}
+        {go : List X → Tree X A} {go′ : List Y → Tree Y B} → Each E g g′ → PairedAfter E R (Each E) go go′
+        → Paired E R (command p O unset f input j c g go) (command p O′ unset′ f′ input′ j c g′ go′)
+    unfolding command
+    paired-command f f′ H is j END gs h = h _ _ gs
+    paired-command f f′ H is j (LOAD d) gs h = h _ _ (each-set d gs (each-at is e0 j))
+    paired-command f f′ H is j (CONST d v) gs h = h _ _ (each-set d gs (K .constant v))
+    paired-command f f′ H is j (ADD d a b) gs h = h _ _ (each-set d gs (K .plus (each-at gs e0 a) (each-at gs e0 b)))
+    paired-command f f′ H is j (SUB d a b) gs h = h _ _ (each-set d gs (K .minus (each-at gs e0 a) (each-at gs e0 b)))
+    paired-command f f′ H is j (SCALE d a v) gs h = h _ _ (each-set d gs (K .times v (each-at gs e0 a)))
+    paired-command f f′ H is j (MUL d a b) gs h = p-multiply (each-at gs e0 a) (each-at gs e0 b) λ z z′ e. h _ _ (each-set d gs e)
+    paired-command f f′ H is j (MOD d a k m) gs h = H .pair k m (each-at gs e0 a) λ z z′ e. h _ _ (each-set d gs e)
+    paired-command f f′ H is j (TRUNC d a k m) gs h = paired-floor H .pair k m (each-at gs e0 a) λ z z′ e. h _ _ (each-set d gs e)
+    paired-command f f′ H is j (LTZ d a k) gs h = paired-sign H k (each-at gs e0 a) λ z z′ e. h _ _ (each-set d gs e)
+    paired-command f f′ H is j (OVER d a k v) gs h = paired-over H k v (each-at gs e0 a) λ z z′ e. h _ _ (each-set d gs e)
+    paired-command f f′ H is j (BLOCKS d a k m) gs h = paired-blocks H .pair k m (each-at gs e0 a) λ z z′ e. h _ _ (each-set d gs e)
+    paired-command f f′ H is j (REVEAL a) gs h = p-reveal (each-at gs e0 a) (h _ _ gs)
+    paired-command f f′ H is j (BITLT d b w v) gs h = paired-comparison .pair v (from-registers gs b w) λ z z′ e. h _ _ (each-set d gs e)
+
+    pub paired-lines : (f : RemainderBy X (Ended X)) (f′ : RemainderBy Y (Ended Y)) → PairedMod E (PairedEnds E) (f (comparison O)) (f′ (comparison O′)) → (triples : ℕ → ℕ) (u : Supply)
+        {input : List X} {input′ : List Y} → Each E input input′ → (end : ℕ) (xs : List Line) (s : Spent) {g : List X} {g′ : List Y} → Each E g g′
+        → Paired E (PairedEnds E) (lines p O unset f triples u input end xs s g) (lines p O′ unset′ f′ triples u input′ end xs s g′)
+    unfolding overLines
+    paired-lines f f′ H triples u is end [] s gs = p-done (record { number = refl; place = refl; spent = refl; registers = gs })
+    paired-lines f f′ H triples u is end (x ∷ xs) s gs =
+        let c = costBy triples (x .command) in
+        paired-stop (check u c s) (p-done (record { number = refl; place = refl; spent = refl; registers = gs }))
+        (paired-command f f′ H is (s .inputs) (x .command) gs λ w w′ ws. paired-lines f f′ H triples u is end xs (pay c s) ws)
