@@ -15,7 +15,8 @@ use Rattle.model.specs.Costs.{Cost, costBy, cost}
 use Rattle.model.specs.Script.{Command, END}
 use Rattle.model.specs.Commands.{command}
 use Rattle.model.specs.Run.{State, noRow, register, written, pay, marked, perform, finish}
-use Rattle.model.proofs.StepLaws.{Puts, finish-put}
+use Rattle.model.specs.Parts.{stepped}
+use Rattle.model.proofs.StepLaws.{made, Puts, finish-put}
 use Rattle.model.proofs.Taking.{Took, took-nothing}
 use Rattle.model.proofs.Written.{length-written, written-append}
 use Rattle.sheet.specs.declared.frame.Frame.{Frame}
@@ -28,21 +29,6 @@ use Rattle.machine.proofs.Registers.{length-put, get-seven, set-seven}
 -- the cost of a command that leaves a row in d
 abbrev pub putCost : ℕ → ℕ → ℕ → ℕ → ℕ → List ℕ → Cost
 putCost d i m k o rs = record { reads = rs; writes = d ∷ []; inputs = i; masks = m; triples = k; openings = o; revealed = 0 }
-
--- the state after it
-abbrev pub putState : Cost → ℕ → State → Step → State
-putState c d x st =
-    record {
-      spent = pay c (x .spent);
-      registers = set (x .registers) d (st .left);
-      deal = st .deal;
-      opened = x .opened ++ st .opened;
-      shown = x .shown;
-    }
-
--- a row that is made without an opening, as a step
-abbrev pub made : State → Row → Step
-made x row = record { left = row; opened = []; deal = x .deal }
 
 module _ {s : List ℕ} {f : Frame} {log₀ shown₀ : List ℕ} {t : Table} {log shown : List ℕ} {x : State} where
   -- the buffers keep their lengths
@@ -61,7 +47,7 @@ module _ {s : List ℕ} {f : Frame} {log₀ shown₀ : List ℕ} {t : Table} {lo
   pub holds-put : (d i m k o : ℕ) (rs : List ℕ) (st : Step) (log′ : List ℕ) → Holds s f log₀ shown₀ t log shown x → d < 64 → f .n ≤ 7
       → length (st .left) ≡ 7 → Took (x .deal) m k o st → log′ ≡ over (written (f .n) (x .opened ++ st .opened)) log₀
       → (t .spent .openings + o) * f .n ≤ length log₀
-      → Holds s f log₀ shown₀ (paid (putTable t d (st .left)) (countsOf (putCost d i m k o rs))) log′ shown (putState (putCost d i m k o rs) d x st)
+      → Holds s f log₀ shown₀ (paid (putTable t d (st .left)) (countsOf (putCost d i m k o rs))) log′ shown (stepped (pay (putCost d i m k o rs) (x .spent)) d x st)
   unfolding pay marked paid putTable
   holds-put d i m k o rs st log′ H h hn seven K e room =
       record {
@@ -168,7 +154,7 @@ pub record Left (f : Frame) (log₀ : List ℕ) (t : Table) (log′ : List ℕ) 
 
 -- a row that is made without an opening, and one that is left by a step whose opened shares went to the record from place at on
 module _ {s : List ℕ} {f : Frame} {log₀ shown₀ : List ℕ} {t : Table} {log shown : List ℕ} {x : State} where
-  pub made-left : {z row : Row} → f .n ≤ 7 → Holds s f log₀ shown₀ t log shown x → z ≡ row → Left f log₀ t log x z 0 0 0 (made x row)
+  pub made-left : {z row : Row} → f .n ≤ 7 → Holds s f log₀ shown₀ t log shown x → z ≡ row → Left f log₀ t log x z 0 0 0 (made (x .deal) row)
   made-left {z} {row} h H e =
       record {
         left = e;

@@ -6,7 +6,7 @@ use Prim.Native.Nat.{ℕ, zero, suc, _<_}
 use lib.ListN.{length, getD, set, length-set}
 use lib.Seq.{getD-set-same}
 use Rattle.algebra.specs.Lists.{from}
-use Rattle.model.specs.Deal.{Setting, Row, Deal, noRow}
+use Rattle.model.specs.Deal.{Setting, Row, noRow}
 use Rattle.model.specs.Trees.{done}
 use Rattle.model.specs.Steps.{Worked, Step, byRows, plus, minus, times, constant, product, comparison, remainder, floor, sign, over, blocks}
 use Rattle.model.specs.Script.{Command, END, LOAD, CONST, ADD, SUB, SCALE, MUL, MOD, TRUNC, LTZ, OVER, BLOCKS, REVEAL, BITLT}
@@ -14,7 +14,7 @@ use Rattle.model.specs.Costs.{costBy}
 use Rattle.model.specs.Commands.{registersFrom, command}
 use Rattle.model.specs.Results.{target}
 use Rattle.model.specs.ReadsOnly.{SameWork, ReadsOnly}
-use Rattle.model.proofs.StepLaws.{putting, putting-is, product-does, comparison-does, remainder-does, floor-does, sign-does, over-does, blocks-does}
+use Rattle.model.proofs.StepLaws.{made, putting, putting-is, product-does, comparison-does, remainder-does, floor-does, sign-does, over-does, blocks-does}
 
 set-here : (d : ℕ) (g : List Row) (x : Row) (r : ℕ) → In r (d ∷ []) → r < length (set g d x) → getD (set g d x) r noRow ≡ x
 set-here d g x r (here e) h = rw e (getD-set-same g d x noRow (rw (e, length-set) at h))
@@ -38,21 +38,17 @@ unfolding from registersFrom
 registers-same g g′ b zero h = refl
 registers-same g g′ b (suc w) h = ap₂ {C = List Row} _∷_ (h b (here refl)) (registers-same g g′ (suc b) w (λ r i. h r (there i)))
 
--- a row made without an opening, as a step
-abbrev made : Row → Deal → Step
-made x d = record { left = x; opened = []; deal = d }
-
 pub reads-only : ReadsOnly
 unfolding command byRows costBy target
 reads-only S input j END g g′ d h = record { opened = refl; shown = refl; deal = refl; written = λ q. none-written q }
-reads-only S input j (LOAD r) g g′ d h = put-same S (LOAD r) r g g′ (made _ d) refl refl refl
-reads-only S input j (CONST r v) g g′ d h = put-same S (CONST r v) r g g′ (made (constant S v) d) refl refl refl
+reads-only S input j (LOAD r) g g′ d h = put-same S (LOAD r) r g g′ (made d _) refl refl refl
+reads-only S input j (CONST r v) g g′ d h = put-same S (CONST r v) r g g′ (made d (constant S v)) refl refl refl
 reads-only S input j (ADD r a b) g g′ d h =
-    rw (h a (here refl), h b (there (here refl))) (put-same S (ADD r a b) r g g′ (made (plus S (getD g′ a noRow) (getD g′ b noRow)) d) refl refl refl)
+    rw (h a (here refl), h b (there (here refl))) (put-same S (ADD r a b) r g g′ (made d (plus S (getD g′ a noRow) (getD g′ b noRow))) refl refl refl)
 reads-only S input j (SUB r a b) g g′ d h =
-    rw (h a (here refl), h b (there (here refl))) (put-same S (SUB r a b) r g g′ (made (minus S (getD g′ a noRow) (getD g′ b noRow)) d) refl refl refl)
+    rw (h a (here refl), h b (there (here refl))) (put-same S (SUB r a b) r g g′ (made d (minus S (getD g′ a noRow) (getD g′ b noRow))) refl refl refl)
 reads-only S input j (SCALE r a v) g g′ d h =
-    rw (h a (here refl)) (put-same S (SCALE r a v) r g g′ (made (times S v (getD g′ a noRow)) d) refl refl refl)
+    rw (h a (here refl)) (put-same S (SCALE r a v) r g g′ (made d (times S v (getD g′ a noRow))) refl refl refl)
 reads-only S input j (MUL r a b) g g′ d h =
     let x = getD g′ a noRow in
     let y = getD g′ b noRow in

@@ -9,11 +9,15 @@ use lib.ListN.{getD, set}
 use Rattle.model.specs.Trees.{Tree, done, multiply, odd}
 use Rattle.model.specs.Trees as Trees
 use Rattle.model.specs.Steps.{Setting, Row, Deal, Worked, after, rowOps, byRows, Step, stepOf, rowRemainder, minus, constant, product, comparison, remainder, floor, sign, over, blocks, quotient, lessTriple, nextTriple, beaver, value}
-use Rattle.model.specs.Parts.{parts, EveryStep, Put, EveryCommand, RunByCommands}
+use Rattle.model.specs.Parts.{parts, EveryStep, stepped, Put, EveryCommand, RunByCommands}
 use Rattle.model.specs.Script.{Command, END, LOAD, CONST, ADD, SUB, SCALE, MUL, MOD, TRUNC, LTZ, OVER, BLOCKS, REVEAL, BITLT, Line}
 use Rattle.model.specs.Costs.{cost}
 use Rattle.model.specs.Commands.{Ended, orStop, registersFrom, command, overLines}
 use Rattle.model.specs.Run.{Spent, State, rowCommand, Supply, Stop, noRow, check, pay, stateAfter, perform, finish, orElse, runLines}
+
+-- a row made without an opening, as a step
+abbrev pub made : Deal → Row → Step
+made d x = record { left = x; opened = []; deal = d }
 
 module _ (S : Setting) where
   -- a tree worked on rows does what a step does, and goes on with what the step leaves
@@ -152,14 +156,7 @@ module _ (S : Setting) where
       })
 
   pub finish-put : (input : List Row) (c : Command) (r : ℕ) (s : State) (x : Step) → Puts input c r s x
-      → finish S input c s
-      ≡ record {
-        spent = pay (cost (S .l) c) (s .spent);
-        registers = set (s .registers) r (x .left);
-        deal = x .deal;
-        opened = s .opened ++ x .opened;
-        shown = s .shown;
-      }
+      → finish S input c s ≡ stepped (pay (cost (S .l) c) (s .spent)) r s x
   unfolding finish
   finish-put input c r s x e = rw (perform-put input c r s x e)
 

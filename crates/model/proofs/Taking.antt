@@ -13,6 +13,7 @@ use Rattle.model.specs.Trees.{Ops, Tree, done, multiply, mask, Remainder
 use Rattle.model.specs.Trees as Trees
 use Rattle.model.specs.Costs.{modTriples}
 use Rattle.model.specs.Steps.{Setting, Row, Deal, rowOps, byRows, Step, stepOf, rowRemainder, plus, minus, product, comparison, remainder, floor, sign, over, blocks}
+use Rattle.model.proofs.StepLaws.{made}
 
 -- a row of seven cells
 abbrev pub Seven : Row → Type 0
@@ -138,7 +139,7 @@ module _ (S : Setting) (h : S .n ≤ 7) where
   took-so : {m n k o : ℕ} {T : Tree Row Row} → Takes (S .l) m n T → n ≡ k → m + 2 * n ≡ o → (d : Deal) → Sized (S .l) m (d .masks) → Took d m k o (stepOf S T d)
   took-so t e f d z = rw (← e, ← f) (took t d z)
 
-  pub took-nothing : (x : Row) (d : Deal) → Took d 0 0 0 (record { left = x; opened = []; deal = d })
+  pub took-nothing : (x : Row) (d : Deal) → Took d 0 0 0 (made d x)
   took-nothing x d = record { used = record { masks = refl; triples = refl }; opens = refl; rows = none }
 
   pub took-product : (x y : Row) (d : Deal) → Took d 0 1 2 (product S x y d)

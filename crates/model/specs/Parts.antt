@@ -13,7 +13,7 @@ use Rattle.model.specs.Steps.{product, comparison, remainder, floor, sig
 use Rattle.model.specs.Script.{Command, MUL, MOD, TRUNC, LTZ, OVER, BLOCKS, BITLT, Line}
 use Rattle.model.specs.Costs.{cost}
 use Rattle.model.specs.Commands.{registersFrom}
-use Rattle.model.specs.Run.{Supply, State, register, check, perform, finish, orElse, runLines}
+use Rattle.model.specs.Run.{Spent, Supply, State, register, check, perform, finish, orElse, runLines}
 
 module _ (S : Setting) where
   -- "it opens C = X + r modulo p"
@@ -81,11 +81,14 @@ pub record StepParts (S : Setting) : Type 0 where
 abbrev pub EveryStep : Type 0
 EveryStep = (S : Setting) → StepParts S
 
+-- the state s after the step x, its row being put in register r, with so much spent
+abbrev pub stepped : Spent → ℕ → State → Step → State
+stepped spent r s x =
+    record { spent = spent; registers = set (s .registers) r (x .left); deal = x .deal; opened = s .opened ++ x .opened; shown = s .shown }
+
 -- the command c leaves the row of the step x in register r, and changes nothing else but what the step opens and takes
 abbrev pub Put : Setting → List Row → Command → ℕ → State → Step → Type 0
-Put S input c r s x =
-    perform S input c s
-    ≡ record { spent = s .spent; registers = set (s .registers) r (x .left); deal = x .deal; opened = s .opened ++ x .opened; shown = s .shown }
+Put S input c r s x = perform S input c s ≡ stepped (s .spent) r s x
 
 -- the commands that open rows, by the step of their name, whatever the state
 pub record CommandParts (S : Setting) (input : List Row) (s : State) : Type 0 where

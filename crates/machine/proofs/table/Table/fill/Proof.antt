@@ -8,8 +8,9 @@ use Rattle.model.specs.Commands.{command}
 use Rattle.model.specs.Costs.{costBy}
 use Rattle.model.specs.Script.{CONST}
 use Rattle.model.specs.Steps.{constant}
+use Rattle.model.proofs.StepLaws.{made}
 use Rattle.sheet.specs.Framed.{settingIn}
-use Rattle.machine.proofs.Keeping.{made, performs-put, made-left}
+use Rattle.machine.proofs.Keeping.{performs-put, made-left}
 use Rattle.machine.proofs.table.Table.fill.Statement.{statement}
 use Rattle.machine.proofs.table.Table.fill.Tie as tie
 
@@ -26,7 +27,7 @@ returns c s log shown =
     let h = c .before .before .pre in
     let z = c .before .constant-row .result .shares in
     let l : length z ≡ 7 = search needs in
-    performs-put (CONST (a .d) (a .v)) (a .d) 0 0 0 0 [] z (λ x. made x (constant (settingIn (a .f)) (a .v))) refl (λ x. refl) (h .1) (h .0) l
+    performs-put (CONST (a .d) (a .v)) (a .d) 0 0 0 0 [] z (λ x. made (x .deal) (constant (settingIn (a .f)) (a .v))) refl (λ x. refl) (h .1) (h .0) l
     (c .put .ensures) (λ log₀ shown₀ x H. made-left (h .0) H (c .before .constant-row .ensures))
 
 pub fill-spec : {M : Type 1} → statement M

@@ -10,8 +10,9 @@ use Rattle.model.specs.Commands.{command}
 use Rattle.model.specs.Costs.{costBy}
 use Rattle.model.specs.Run.{Spent, noRow}
 use Rattle.model.specs.Script.{LOAD}
+use Rattle.model.proofs.StepLaws.{made}
 use Rattle.machine.specs.Holding.{inputsOf}
-use Rattle.machine.proofs.Keeping.{made, performs-put, made-left}
+use Rattle.machine.proofs.Keeping.{performs-put, made-left}
 use Rattle.machine.proofs.Places.{n-most, input-fits, input-at}
 use Rattle.machine.proofs.table.Table.load.Statement.{statement}
 use Rattle.machine.proofs.table.Table.load.Tie as tie
@@ -38,7 +39,7 @@ returns c log shown =
     let h = c .before .before .before .before .before .before .pre in
     let z = c .before .read-row .result .shares in
     let l : length z ≡ 7 = search needs in
-    performs-put (LOAD (a .d)) (a .d) 1 0 0 0 [] z (λ x. made x (getD (inputsOf (now (a .s)) (a .f)) (x .spent .inputs) noRow)) refl (λ x. refl) (h .2)
+    performs-put (LOAD (a .d)) (a .d) 1 0 0 0 [] z (λ x. made (x .deal) (getD (inputsOf (now (a .s)) (a .f)) (x .spent .inputs) noRow)) refl (λ x. refl) (h .2)
     (n-most (h .0)) l (c .put .ensures) (λ log₀ shown₀ x H.
     made-left (n-most (h .0)) H
     (c .before .read-row .ensures ∙

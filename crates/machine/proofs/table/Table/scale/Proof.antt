@@ -9,8 +9,9 @@ use Rattle.model.specs.Costs.{costBy}
 use Rattle.model.specs.Run.{register}
 use Rattle.model.specs.Script.{SCALE}
 use Rattle.model.specs.Steps.{times}
+use Rattle.model.proofs.StepLaws.{made}
 use Rattle.sheet.specs.Framed.{settingIn}
-use Rattle.machine.proofs.Keeping.{made, performs-put, made-left, register-is}
+use Rattle.machine.proofs.Keeping.{performs-put, made-left, register-is}
 use Rattle.machine.proofs.table.Table.scale.Statement.{statement}
 use Rattle.machine.proofs.table.Table.scale.Tie as tie
 
@@ -31,7 +32,7 @@ returns c s log shown =
     let z = c .before .scale-row .result .shares in
     let l : length z ≡ 7 = search needs in
     performs-put (SCALE (a .d) (a .a) (a .v)) (a .d) 0 0 0 0 (a .a ∷ []) z
-    (λ x. made x (times (settingIn (a .f)) (a .v) (register x (a .a)))) refl (λ x. refl) (h .2) (h .1) l (c .put .ensures)
+    (λ x. made (x .deal) (times (settingIn (a .f)) (a .v) (register x (a .a)))) refl (λ x. refl) (h .2) (h .1) l (c .put .ensures)
     (λ log₀ shown₀ x H.
     made-left (h .1) H (c .before .scale-row .ensures ∙ rw (c .before .before .row .ensures, register-is H (a .a) (h .3))))
 

@@ -9,8 +9,9 @@ use Rattle.model.specs.Costs.{costBy}
 use Rattle.model.specs.Run.{register}
 use Rattle.model.specs.Script.{SUB}
 use Rattle.model.specs.Steps.{minus}
+use Rattle.model.proofs.StepLaws.{made}
 use Rattle.sheet.specs.Framed.{settingIn}
-use Rattle.machine.proofs.Keeping.{made, performs-put, made-left, register-is}
+use Rattle.machine.proofs.Keeping.{performs-put, made-left, register-is}
 use Rattle.machine.proofs.table.Table.sub.Statement.{statement}
 use Rattle.machine.proofs.table.Table.sub.Tie as tie
 
@@ -34,7 +35,7 @@ returns c s log shown =
     let z = c .before .sub-rows .result .shares in
     let l : length z ≡ 7 = search needs in
     performs-put (SUB (a .d) (a .a) (a .b)) (a .d) 0 0 0 0 (a .a ∷ a .b ∷ []) z
-    (λ x. made x (minus (settingIn (a .f)) (register x (a .a)) (register x (a .b)))) refl (λ x. refl) (h .2) (h .1) l (c .put .ensures)
+    (λ x. made (x .deal) (minus (settingIn (a .f)) (register x (a .a)) (register x (a .b)))) refl (λ x. refl) (h .2) (h .1) l (c .put .ensures)
     (λ log₀ shown₀ x H.
     made-left (h .1) H
     (c .before .sub-rows .ensures ∙ rw (c .before .before .before .row .ensures, c .before .before .row2 .ensures, register-is H (a .a) (h .3), register-is H (a .b) (h .4))))
