@@ -98,8 +98,7 @@ fn sheet_of(commands: &[Command], inputs: usize, masks: usize) -> Vec<u8> {
     let mut dealer = Dealer::new(&mut generator, FIELD, PARTIES);
     let p = dealer.field.modulus;
     let secrets = dealer.generator.list(inputs, p);
-    let masks = dealer.generator.list(masks, p);
-    Draft::deal(&mut dealer, commands, &secrets, &masks).to_bytes()
+    Draft::deal_drawn(&mut dealer, commands, &secrets, masks).to_bytes()
 }
 
 #[cfg(test)]

@@ -42,6 +42,17 @@ impl Draft {
         }
     }
 
+    /// The same with so many masks, their numbers drawn.
+    pub fn deal_drawn(
+        dealer: &mut Dealer,
+        commands: &[Command],
+        secrets: &[u32],
+        masks: usize,
+    ) -> Draft {
+        let masks = dealer.generator.list(masks, dealer.field.modulus);
+        Draft::deal(dealer, commands, secrets, &masks)
+    }
+
     pub fn to_bytes(&self) -> Vec<u8> {
         let mut bytes = vec![self.number, self.parties, self.threshold];
         for count in [

@@ -95,9 +95,7 @@ fn blocks(d: u8, a: u8) -> Command {
 fn dealt(index: u64, commands: &[Command], secrets: &[u32], masks: usize) -> Draft {
     let mut generator = Generator::at(SEED, index);
     let mut dealer = Dealer::new(&mut generator, 2, (3, 1));
-    let p = dealer.field.modulus;
-    let masks = dealer.generator.list(masks, p);
-    Draft::deal(&mut dealer, commands, secrets, &masks)
+    Draft::deal_drawn(&mut dealer, commands, secrets, masks)
 }
 
 #[cfg(test)]

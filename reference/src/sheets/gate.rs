@@ -138,9 +138,7 @@ fn most_reveals() -> Draft {
 fn seven_parties(index: u64, commands: &[Command], secrets: &[u32], masks: usize) -> Draft {
     let mut generator = Generator::at(SEED, index);
     let mut dealer = Dealer::new(&mut generator, 3, (7, 3));
-    let p = dealer.field.modulus;
-    let masks = dealer.generator.list(masks, p);
-    Draft::deal(&mut dealer, commands, secrets, &masks)
+    Draft::deal_drawn(&mut dealer, commands, secrets, masks)
 }
 
 #[cfg(test)]
