@@ -8,15 +8,11 @@ use lib.IntN.{ℤ}
 use Rattle.algebra.proofs.Tests.{and-left, and-right, and-both}
 use Rattle.model.specs.Fields.{modulus, largestK}
 use Rattle.model.specs.Coding.{inRange, code, readBack}
-use Rattle.model.specs.Refusing.{given}
 use Rattle.model.specs.Entries.{encodeNumber, encodeValue, decodeNumber, decodeValue}
 use Rattle.model.specs.Shamir.{EveryCodeEntry}
 use Rattle.model.proofs.Coding.{every-coding}
+use Rattle.model.proofs.Trying.{given-done}
 use Rattle.model.proofs.Entries.{passed, pass}
-
--- what is given where nothing refuses
-given-is : {A : Type 0} (number : ℕ) (x y : A) → number ≡ 0 → given number x y ≡ x
-given-is number x y e = rw e refl
 
 module _ (f : ℕ) (h : f < 4) where
   encode-passed : (k : ℕ) (a : ℤ) → encodeNumber f k a ≡ 0 → ((2 ≤ k) × (k ≤ largestK f)) × T (inRange k a)
@@ -43,11 +39,11 @@ module _ (f : ℕ) (h : f < 4) where
 
   encode-value : (k : ℕ) (a : ℤ) → encodeNumber f k a ≡ 0 → encodeValue f k a ≡ code (modulus f) a
   unfolding encodeValue
-  encode-value k a e = given-is _ _ _ e
+  encode-value k a e = given-done _ _ _ e
 
   decode-value : (v : ℕ) → decodeNumber f v ≡ 0 → decodeValue f v ≡ readBack (modulus f) v
   unfolding decodeValue
-  decode-value v e = given-is _ _ _ e
+  decode-value v e = given-done _ _ _ e
 
   decoded : (k : ℕ) (a : ℤ) → encodeNumber f k a ≡ 0 → (decodeNumber f (encodeValue f k a) ≡ 0) × (decodeValue f (encodeValue f k a) ≡ a)
   decoded k a e =

@@ -5,6 +5,7 @@ pub mod Sharings
 pub mod Weights
 pub mod Extrapolation
 pub mod Coefficients
+pub mod Trying
 pub mod Entries
 pub mod CodeEntries
 pub mod Shamir

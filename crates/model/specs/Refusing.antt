@@ -2,13 +2,19 @@
 -- refuses.
 -- Assumes nothing.
 use mathlib.Core.Bool.{Bool, cond}
-use Prim.Native.Nat.{ℕ}
-use lib.Dec.{eqb}
+use mathlib.Core.List.{List, [], _∷_}
+use Prim.Native.Nat.{ℕ, zero, suc}
+
+-- Each test is of what must hold, with the number of the refusal where it fails: the number of the first that fails, or 0.
+unfoldable pub firstFailed : List (Bool × ℕ) → ℕ
+firstFailed [] = 0
+firstFailed (test ∷ tests) = cond (test .0) (firstFailed tests) (test .1)
+
+-- what is given where the number is 0, and what stands for it in a refusal
+abbrev pub given {ℓ} : {A : Type ℓ} → ℕ → A → A → A
+given zero done refused = done
+given (suc number) done refused = refused
 
 -- the number of a test that fails, else that of the tests after it
 abbrev pub tried : Bool → ℕ → ℕ → ℕ
 tried passes number next = cond passes next number
-
--- what is given where the number is 0, and what stands for it in a refusal
-abbrev pub given {ℓ} : {A : Type ℓ} → ℕ → A → A → A
-given number done refused = cond (eqb number 0) done refused

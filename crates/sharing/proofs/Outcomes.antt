@@ -4,7 +4,6 @@ use mathlib.Core.Path.{_≡_, sym, _∙_}
 use mathlib.Core.List.{List, _∷_}
 use Prim.Native.Nat.{ℕ}
 use native.Mathlib.Omega.{arith}
-use borrow.Author.Tests.{ne-eqb}
 use lib.ListN.{take, drop}
 use Rattle.algebra.specs.Lists.{over}
 use Rattle.algebra.specs.Rows.{padded}
@@ -12,6 +11,7 @@ use Rattle.algebra.proofs.Lists.{over-all}
 use Rattle.model.specs.Fields.{modulus}
 use Rattle.model.specs.Sharing.{share, recover, secret}
 use Rattle.model.specs.Entries.{shareNumber, shareLeft, recoverNumber, recoverValue, recoverLeft}
+use Rattle.model.proofs.Trying.{given-refused}
 use Rattle.model.proofs.Entries.{share-accepted, share-left, length-shares, recover-value, recover-left}
 
 module _ (f n t s : ℕ) (cs out : List ℕ) where
@@ -23,7 +23,7 @@ module _ (f n t s : ℕ) (cs out : List ℕ) where
 
   pub share-refused : (shareNumber f n t s cs out ≡ 0 → ⊥) → out ≡ shareLeft f n t s cs out
   unfolding shareLeft
-  share-refused k = rw (ne-eqb (shareNumber f n t s cs out) 0 k)
+  share-refused k = sym (given-refused _ _ _ k)
 
 module _ (f n t : ℕ) (xs out : List ℕ) where
   pub recovered : recoverNumber f n t xs out ≡ 0 → {p v : ℕ} → p ≡ modulus f → {x last : List ℕ} → x ≡ padded xs → v ≡ secret p t x
@@ -33,4 +33,4 @@ module _ (f n t : ℕ) (xs out : List ℕ) where
 
   pub recover-refused : (recoverNumber f n t xs out ≡ 0 → ⊥) → (0 ≡ recoverValue f n t xs out) × (out ≡ recoverLeft f n t xs out)
   unfolding recoverValue recoverLeft
-  recover-refused k = let e = ne-eqb (recoverNumber f n t xs out) 0 k in (rw e, rw e)
+  recover-refused k = (sym (given-refused _ _ _ k), sym (given-refused _ _ _ k))

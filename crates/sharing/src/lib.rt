@@ -2,6 +2,7 @@
 pub mod polynomial;
 pub mod rows;
 pub mod secret;
+pub mod setting;
 
 ghost use mathlib.Core.Path.{_≡_};
 ghost use mathlib.Core.Bool.{_&&_};
