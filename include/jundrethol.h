@@ -2,31 +2,20 @@
  *
  * Link target/staticlib/libjundrethol.a, which `rt staticlib jundrethol` writes. Each function is proved to give exactly the answer that its
  * contract in crates/jundrethol/src/lib.rt fixes, to end, and not to fault, whatever the numbers, the bytes and the lengths are. Nothing is
- * allocated or kept between calls, so several threads may call at once.
+ * allocated, and nothing is kept for the next call, so several threads may call at once.
+ *
+ * Values, not time: what is promised is about the values that are opened, returned and written. How long a call takes and what it leaves in
+ * caches may depend on shares and secrets, and the stack that it used is not wiped: they are not kept from one who measures or reads these.
  *
  * A list is a pointer and the number of its elements (not of its bytes). What the proof assumes of a caller is what C cannot check:
  *   - a pointer is never null, also where the length is 0, and is aligned for its type;
  *   - the list has as many elements as the length says, and each has been given a value;
  *   - lists and numbers that a function writes overlap with nothing else that is handed to the same call.
  *
- * Every function answers a number: 0, or the first of these that applies.
- *   1  the sheet has fewer than 11 bytes
- *   2  the field is over 3
- *   3  n is not from 3 to 7, t is below 1, or 2t + 1 is over n
- *   4  a count is over its limit, or a list or the sheet has the wrong length
- *   5  a secret, coefficient, share or field value is not below p
- *   6  a row is no sharing
- *   7  a mask is not well formed
- *   8  a triple is not well formed
- *   9  a command byte is over 0x0D
- *  10  operands are cut off, END is missing, or bytes follow it
- *  11  an operand, k or a signed number is out of range
- *  21  a register that is read is unset
- *  22  no input row is left
- *  23  no mask is left
- *  24  fewer triples are left than the command takes
- *  25  the record cannot take all shares of the command
- *  26  the revealed list is full
+ * What the archive asks of a program that links it was measured, see docs/LINKING.md:
+ *   - memcpy and memset, and no other symbol;
+ *   - JUNDRETHOL_STACK bytes of stack;
+ *   - nothing of where it is placed: it is position independent, for executables and shared objects alike.
  *
  * The fields, by number: 0 is p = 13, 1 is 251, 2 is 65521, 3 is 2147483647; the largest k is 3, 7, 15, 30.
  */
@@ -40,30 +29,66 @@
 extern "C" {
 #endif
 
+/* The version of this header and of the archive that is built beside it. While the first number stays, refusals and places in counts keep their
+ * numbers, functions their parameters, and a call that answers 0 or 21 to 26 leaves the same values. A higher second number may add functions,
+ * refusals, and counts after the last, and may run what was refused with 1 to 20. */
+#define JUNDRETHOL_VERSION_MAJOR 1
+#define JUNDRETHOL_VERSION_MINOR 0
+
+/* What every function answers: 0, or the first of the others that applies. */
+#define JUNDRETHOL_DONE 0
+
+/* The input is refused, and nothing is run. */
+#define JUNDRETHOL_NO_HEADER 1     /* the sheet has fewer than 11 bytes */
+#define JUNDRETHOL_BAD_FIELD 2     /* the field is over 3 */
+#define JUNDRETHOL_BAD_PARTIES 3   /* n is not from 3 to 7, t is below 1, or 2t + 1 is over n */
+#define JUNDRETHOL_BAD_LENGTH 4    /* a count is over its limit, or a list or the sheet has the wrong length */
+#define JUNDRETHOL_NOT_BELOW_P 5   /* a secret, coefficient, share or field value is not below p */
+#define JUNDRETHOL_NO_SHARING 6    /* a row is no sharing */
+#define JUNDRETHOL_BAD_MASK 7      /* a mask is not well formed */
+#define JUNDRETHOL_BAD_TRIPLE 8    /* a triple is not well formed */
+#define JUNDRETHOL_BAD_COMMAND 9   /* a command byte is over 0x0D */
+#define JUNDRETHOL_BAD_END 10      /* operands are cut off, END is missing, or bytes follow it */
+#define JUNDRETHOL_OUT_OF_RANGE 11 /* an operand, k or a signed number is out of range */
+
+/* A command is refused because of the state: those before it stand, and it changes nothing. */
+#define JUNDRETHOL_UNSET 21           /* a register that is read is unset */
+#define JUNDRETHOL_NO_INPUT 22        /* no input row is left */
+#define JUNDRETHOL_NO_MASK 23         /* no mask is left */
+#define JUNDRETHOL_TOO_FEW_TRIPLES 24 /* fewer triples are left than the command takes */
+#define JUNDRETHOL_RECORD_FULL 25     /* the record cannot take all shares of the command */
+#define JUNDRETHOL_REVEALED_FULL 26   /* the revealed list is full */
+
 /* The bytes of the largest sheet: a longer one is refused. */
-#define JUNDRETHOL_SHEET 59723
+#define JUNDRETHOL_SHEET_LENGTH 59723
 
 /* No run outgrows a record and a revealed list of these lengths. */
-#define JUNDRETHOL_RECORD 10850
-#define JUNDRETHOL_REVEALED 511
+#define JUNDRETHOL_RECORD_LENGTH 10850
+#define JUNDRETHOL_REVEALED_LENGTH 511
 
-/* The cells of 64 registers, 7 each; the marks; and the places in counts. */
-#define JUNDRETHOL_CELLS 448
-#define JUNDRETHOL_MARKS 64
-#define JUNDRETHOL_COUNTS 5
-#define JUNDRETHOL_PLACE 0
-#define JUNDRETHOL_INPUTS 1
-#define JUNDRETHOL_MASKS 2
-#define JUNDRETHOL_TRIPLES 3
-#define JUNDRETHOL_OPENINGS 4
+/* The cells of 64 registers, 7 each; the marks; and the counts. */
+#define JUNDRETHOL_REGISTERS_LENGTH 448
+#define JUNDRETHOL_MARKS_LENGTH 64
+#define JUNDRETHOL_COUNTS_LENGTH 6
+
+/* Where each number stands in counts. */
+#define JUNDRETHOL_COUNT_PLACE 0
+#define JUNDRETHOL_COUNT_INPUTS 1
+#define JUNDRETHOL_COUNT_MASKS 2
+#define JUNDRETHOL_COUNT_TRIPLES 3
+#define JUNDRETHOL_COUNT_OPENINGS 4
+#define JUNDRETHOL_COUNT_REVEALED 5
+
+/* No call takes more bytes of stack than these, with its arguments and return address. */
+#define JUNDRETHOL_STACK 16384
 
 /* Runs a sheet.
  *
- * record     gets n shares for each opening, party 1's first, in order: counts[JUNDRETHOL_OPENINGS] times n numbers.
- * revealed   gets the values of the finished REVEALs in order: as many as openings - masks - 2 * triples, by counts.
+ * record     gets n shares for each opening, party 1's first, in order: counts[JUNDRETHOL_COUNT_OPENINGS] times n numbers.
+ * revealed   gets the values of the finished REVEALs in order: counts[JUNDRETHOL_COUNT_REVEALED] numbers.
  * registers  gets 448 cells: party j's share in register r is registers[7 * r + j - 1]. Cells past n and those of unset registers are 0.
  * marks      gets 64 bytes: 1 where the register is set, else 0.
- * counts     gets place, inputs, masks, triples and openings.
+ * counts     gets the place; how many inputs, masks and triples were spent and openings made; and how many values were revealed.
  *
  * Past what is written every list is unchanged. The lengths of record and revealed decide 25 and 26, by which the run stops. The other three
  * decide nothing: a list that is too short gets as many numbers as it has places for, so a caller without use for it lends a length of 0.

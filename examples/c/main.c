@@ -5,6 +5,10 @@
 
 #include "jundrethol.h"
 
+#if JUNDRETHOL_VERSION_MAJOR != 1
+#error "written for version 1 of the library"
+#endif
+
 #define COUNT(list) (sizeof(list) / sizeof((list)[0]))
 
 static void expect(int holds, const char *what)
@@ -38,61 +42,61 @@ static size_t make_sheet(uint8_t *sheet)
 
 static void print_run(const uint32_t *record, const uint32_t *revealed, const uint64_t *counts, uint32_t number)
 {
-    for (uint64_t i = 0; i < counts[JUNDRETHOL_OPENINGS]; i++)
+    for (uint64_t i = 0; i < counts[JUNDRETHOL_COUNT_OPENINGS]; i++)
         printf("opened %" PRIu32 " %" PRIu32 " %" PRIu32 "\n", record[3 * i], record[3 * i + 1], record[3 * i + 2]);
-    uint64_t values = counts[JUNDRETHOL_OPENINGS] - counts[JUNDRETHOL_MASKS] - 2 * counts[JUNDRETHOL_TRIPLES];
-    for (uint64_t i = 0; i < values; i++) {
+    for (uint64_t i = 0; i < counts[JUNDRETHOL_COUNT_REVEALED]; i++) {
         int64_t reading = 0;
-        expect(jundrethol_decode(0, revealed[i], &reading) == 0, "a revealed value is a field value");
+        expect(jundrethol_decode(0, revealed[i], &reading) == JUNDRETHOL_DONE, "a revealed value is a field value");
         printf("revealed %" PRIu32 " signed %" PRId64 "\n", revealed[i], reading);
     }
     printf("end %" PRIu32 " at %" PRIu64 " inputs %" PRIu64 " masks %" PRIu64 " triples %" PRIu64 " openings %" PRIu64 "\n", number,
-           counts[JUNDRETHOL_PLACE], counts[JUNDRETHOL_INPUTS], counts[JUNDRETHOL_MASKS], counts[JUNDRETHOL_TRIPLES],
-           counts[JUNDRETHOL_OPENINGS]);
+           counts[JUNDRETHOL_COUNT_PLACE], counts[JUNDRETHOL_COUNT_INPUTS], counts[JUNDRETHOL_COUNT_MASKS],
+           counts[JUNDRETHOL_COUNT_TRIPLES], counts[JUNDRETHOL_COUNT_OPENINGS]);
 }
 
 static void run_sheet(void)
 {
     static uint8_t sheet[128];
-    static uint32_t record[JUNDRETHOL_RECORD], revealed[JUNDRETHOL_REVEALED], registers[JUNDRETHOL_CELLS];
-    static uint8_t marks[JUNDRETHOL_MARKS];
-    static uint64_t counts[JUNDRETHOL_COUNTS];
+    static uint32_t record[JUNDRETHOL_RECORD_LENGTH], revealed[JUNDRETHOL_REVEALED_LENGTH], registers[JUNDRETHOL_REGISTERS_LENGTH];
+    static uint8_t marks[JUNDRETHOL_MARKS_LENGTH];
+    static uint64_t counts[JUNDRETHOL_COUNTS_LENGTH];
     size_t length = make_sheet(sheet);
     uint32_t number = jundrethol_run(sheet, length, record, COUNT(record), revealed, COUNT(revealed), registers, COUNT(registers), marks,
                                      COUNT(marks), counts, COUNT(counts));
     print_run(record, revealed, counts, number);
-    expect(number == 0 && revealed[0] == 2, "5 times 3 is 2 modulo 13");
+    expect(number == JUNDRETHOL_DONE && revealed[0] == 2, "5 times 3 is 2 modulo 13");
     expect(registers[14] == 7 && registers[15] == 12 && registers[16] == 4 && registers[17] == 0, "register 2 shares the product");
     expect(marks[2] == 1 && marks[3] == 0, "three registers are set");
     /* A byte too few is a wrong length; of lists that are too short the rest stays. */
     registers[0] = 99;
     counts[1] = 99;
     number = jundrethol_run(sheet, length - 1, record, COUNT(record), revealed, COUNT(revealed), registers, 0, marks, 0, counts, 1);
-    expect(number == 4 && registers[0] == 99 && counts[0] == 0 && counts[1] == 99 && record[0] == 5, "a cut sheet is refused by 4");
+    expect(number == JUNDRETHOL_BAD_LENGTH, "a cut sheet has the wrong length");
+    expect(registers[0] == 99 && counts[0] == 0 && counts[1] == 99 && record[0] == 5, "what has no place is not written");
 }
 
 static void share_and_recover(void)
 {
     const uint32_t coefficients[1] = {2};
     uint32_t shares[3] = {0}, found[1] = {0}, secret = 0;
-    expect(jundrethol_share(0, 3, 1, 5, coefficients, 1, shares, 3) == 0, "5 is shared");
+    expect(jundrethol_share(0, 3, 1, 5, coefficients, 1, shares, 3) == JUNDRETHOL_DONE, "5 is shared");
     printf("shares %" PRIu32 " %" PRIu32 " %" PRIu32 "\n", shares[0], shares[1], shares[2]);
-    expect(jundrethol_recover(0, 3, 1, &secret, shares, 3, found, 1) == 0, "the row is a sharing");
+    expect(jundrethol_recover(0, 3, 1, &secret, shares, 3, found, 1) == JUNDRETHOL_DONE, "the row is a sharing");
     printf("secret %" PRIu32 " coefficient %" PRIu32 "\n", secret, found[0]);
     expect(secret == 5 && found[0] == 2, "recovery undoes sharing");
     shares[2] = 12;
-    expect(jundrethol_recover(0, 3, 1, &secret, shares, 3, found, 1) == 6 && secret == 0, "7 9 12 is no sharing");
+    expect(jundrethol_recover(0, 3, 1, &secret, shares, 3, found, 1) == JUNDRETHOL_NO_SHARING && secret == 0, "7 9 12 is no sharing");
 }
 
 static void encode_and_decode(void)
 {
     uint32_t value = 0;
     int64_t number = 0;
-    expect(jundrethol_encode(0, 3, -4, &value) == 0, "-4 has 3 bits");
-    expect(jundrethol_decode(0, value, &number) == 0, "a coded number is a field value");
+    expect(jundrethol_encode(0, 3, -4, &value) == JUNDRETHOL_DONE, "-4 has 3 bits");
+    expect(jundrethol_decode(0, value, &number) == JUNDRETHOL_DONE, "a coded number is a field value");
     printf("coded %" PRIu32 " signed %" PRId64 "\n", value, number);
     expect(value == 9 && number == -4, "reading undoes coding");
-    expect(jundrethol_encode(0, 3, 4, &value) == 11 && value == 0, "4 has more than 3 bits");
+    expect(jundrethol_encode(0, 3, 4, &value) == JUNDRETHOL_OUT_OF_RANGE && value == 0, "4 has more than 3 bits");
 }
 
 int main(void)

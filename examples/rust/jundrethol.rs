@@ -5,24 +5,25 @@
 pub mod c;
 
 /// No run outgrows a record and a revealed list of these lengths.
-pub const RECORD: usize = 10850;
-pub const REVEALED: usize = 511;
+pub const RECORD_LENGTH: usize = 10850;
+pub const REVEALED_LENGTH: usize = 511;
 
-/// The cells of 64 registers, 7 each.
-pub const CELLS: usize = 448;
-pub const MARKS: usize = 64;
-pub const COUNTS: usize = 5;
+/// The cells of 64 registers, 7 each; the marks; and the counts.
+pub const REGISTERS_LENGTH: usize = 448;
+pub const MARKS_LENGTH: usize = 64;
+pub const COUNTS_LENGTH: usize = 6;
 
-/// The paper's number; register r's cells from 7r on; 1 for each register that is set; place, inputs, masks, triples, openings.
+/// The paper's number; register r's cells from 7r on; 1 for each register that is set; place, inputs, masks, triples, openings, and how many
+/// values were revealed.
 pub struct Ran {
     pub number: u32,
-    pub registers: [u32; CELLS],
-    pub marks: [u8; MARKS],
-    pub counts: [u64; COUNTS],
+    pub registers: [u32; REGISTERS_LENGTH],
+    pub marks: [u8; MARKS_LENGTH],
+    pub counts: [u64; COUNTS_LENGTH],
 }
 
 pub fn run(sheet: &[u8], record: &mut [u32], revealed: &mut [u32]) -> Ran {
-    let mut ran = Ran { number: 0, registers: [0; CELLS], marks: [0; MARKS], counts: [0; COUNTS] };
+    let mut ran = Ran { number: 0, registers: [0; REGISTERS_LENGTH], marks: [0; MARKS_LENGTH], counts: [0; COUNTS_LENGTH] };
     ran.number = run_lent(sheet, record, revealed, &mut ran.registers, &mut ran.marks, &mut ran.counts);
     ran
 }

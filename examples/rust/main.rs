@@ -24,14 +24,13 @@ fn make_sheet() -> Vec<u8> {
 
 fn run_sheet() {
     let sheet = make_sheet();
-    let mut record = vec![0; jundrethol::RECORD];
-    let mut revealed = vec![0; jundrethol::REVEALED];
+    let mut record = vec![0; jundrethol::RECORD_LENGTH];
+    let mut revealed = vec![0; jundrethol::REVEALED_LENGTH];
     let ran = jundrethol::run(&sheet, &mut record, &mut revealed);
-    let [place, inputs, masks, triples, openings] = ran.counts;
+    let [place, inputs, masks, triples, openings, values] = ran.counts;
     for shares in record.chunks(3).take(openings as usize) {
         println!("opened {} {} {}", shares[0], shares[1], shares[2]);
     }
-    let values = openings - masks - 2 * triples;
     for value in revealed.iter().take(values as usize) {
         let signed = jundrethol::decode(0, *value).expect("a revealed value is a field value");
         println!("revealed {value} signed {signed}");
@@ -41,7 +40,7 @@ fn run_sheet() {
     expect(ran.registers[14..18] == [7, 12, 4, 0], "register 2 shares the product");
     expect(ran.marks[2] == 1 && ran.marks[3] == 0, "three registers are set");
     let cut = jundrethol::run(&sheet[..sheet.len() - 1], &mut record, &mut revealed);
-    expect(cut.number == 4 && cut.counts == [0; 5] && record[0] == 5, "a cut sheet is refused by 4");
+    expect(cut.number == 4 && cut.counts == [0; jundrethol::COUNTS_LENGTH] && record[0] == 5, "a cut sheet is refused by 4");
 }
 
 fn share_and_recover() {

@@ -10,7 +10,7 @@ use crate::signed::{decode, encode};
 
 pub const CELLS: usize = 448;
 pub const MARKS: usize = 64;
-pub const COUNTS: usize = 5;
+pub const COUNTS: usize = 6;
 
 /// The lengths of the lists that a run of the library fills besides its two buffers.
 #[derive(Clone, Copy, Debug, PartialEq)]
@@ -81,6 +81,7 @@ impl Ran {
             answer.masks,
             answer.triples,
             answer.openings,
+            answer.revealed,
         ];
         put(&mut self.counts, counts.map(|count| count as u64));
     }
@@ -189,7 +190,7 @@ mod tests {
     #[test]
     fn a_run_is_told_whole() {
         let ran = ran(Lengths::WHOLE);
-        assert_eq!((ran.number, &ran.counts[..]), (0, &[10, 2, 0, 1, 3][..]));
+        assert_eq!((ran.number, &ran.counts[..]), (0, &[10, 2, 0, 1, 3, 1][..]));
         assert_eq!(ran.registers[14..18], [7, 12, 4, 0]);
         assert_eq!((ran.marks[2], ran.marks[3]), (1, 0));
         assert_eq!(ran.record[..9], [5, 6, 7, 2, 3, 4, 7, 12, 4]);
@@ -205,12 +206,12 @@ mod tests {
         let lengths = Lengths {
             registers: 450,
             marks: 3,
-            counts: 6,
+            counts: 7,
         };
         let ran = ran(lengths);
         assert_eq!(ran.registers[447..], [0, 4_000_000_449, 4_000_000_450]);
         assert_eq!(ran.marks, [1, 1, 1]);
-        assert_eq!(ran.counts[4..], [3, u64::MAX - 95]);
+        assert_eq!(ran.counts[4..], [3, 1, u64::MAX - 94]);
     }
 
     #[test]

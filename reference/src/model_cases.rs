@@ -4,7 +4,6 @@ use crate::case::Case;
 use crate::cases::held as calls;
 use crate::compare::Entered;
 use crate::sheets::held::{self as sheets, Held, Left};
-use crate::table::values_revealed;
 
 pub const NAMES: [&str; 5] = [
     "SheetCases",
@@ -171,9 +170,10 @@ fn plain_header(held: &Held) -> Vec<u8> {
 /// Three numbers and one were lent, and nothing is counted, set or written.
 fn is_untouched(held: &Held, left: &Left) -> bool {
     let answer = &left.answer;
-    let counts = [answer.inputs, answer.masks, answer.triples, answer.openings];
+    let counts = [answer.inputs, answer.masks, answer.triples];
     (held.record, held.revealed) == (3, 1)
-        && counts == [0; 4]
+        && counts == [0; 3]
+        && (answer.openings, answer.revealed) == (0, 0)
         && !answer.set.contains(&true)
         && left
             .record
@@ -191,7 +191,7 @@ fn told(left: &Left) -> String {
         answer.masks,
         answer.triples,
         answer.openings,
-        values_revealed(answer),
+        answer.revealed,
     ];
     let mut end = vec![answer.number as usize];
     end.extend(counts);

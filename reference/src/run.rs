@@ -17,6 +17,8 @@ pub struct Answer {
     pub masks: usize,
     pub triples: usize,
     pub openings: usize,
+    /// How many values were revealed.
+    pub revealed: usize,
     /// 0 past the last party, and where the register is unset.
     pub registers: [[u32; MOST_PARTIES]; REGISTERS],
     pub set: [bool; REGISTERS],
@@ -45,6 +47,7 @@ fn without_run(refused: Refused) -> Answer {
         masks: 0,
         triples: 0,
         openings: 0,
+        revealed: 0,
         registers: [[0; MOST_PARTIES]; REGISTERS],
         set: [false; REGISTERS],
     }

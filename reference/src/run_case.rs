@@ -1,7 +1,7 @@
 //! A sheet with the lengths of the lent buffers, its form as bytes, and the lines of its answer.
 
 use crate::run::{run, Answer};
-use crate::table::{end_line, values_revealed, RECORD, REVEALED};
+use crate::table::{end_line, RECORD, REVEALED};
 
 pub const LONGEST_RECORD: usize = 12_000;
 pub const LONGEST_REVEALED: usize = 600;
@@ -30,7 +30,7 @@ impl Case {
         let parties = sheet.get(1).map_or(0, |&n| usize::from(n));
         Case {
             record: answer.openings * parties + 3,
-            revealed: values_revealed(&answer) + 2,
+            revealed: answer.revealed + 2,
             sheet,
         }
     }

@@ -25,11 +25,6 @@ pub fn is_input_refused(answer: &Answer) -> bool {
     (refusal::HEADER..=refusal::RANGE).contains(&answer.number)
 }
 
-/// How many values a run has revealed: its openings without those of masks and triples.
-pub fn values_revealed(answer: &Answer) -> usize {
-    answer.openings - answer.masks - 2 * answer.triples
-}
-
 pub fn end_line(answer: &Answer) -> String {
     format!(
         "end {} at {} inputs {} masks {} triples {} openings {}\n",
@@ -47,7 +42,7 @@ fn run_lines(sheet: &[u8], answer: &Answer, record: &[u32], revealed: &[u32]) ->
         let shares: String = row.iter().map(|share| format!(" {share}")).collect();
         lines += &format!("opened{shares}\n");
     }
-    for &value in &revealed[..values_revealed(answer)] {
+    for &value in &revealed[..answer.revealed] {
         let (_, signed) = decode(field, value);
         lines += &format!("revealed {value} signed {signed}\n");
     }

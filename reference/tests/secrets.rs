@@ -50,6 +50,7 @@ fn check_counts(costs: &[Cost], outcome: &Outcome) {
     assert_eq!(answer.masks, sum(|cost| cost.masks));
     assert_eq!(answer.triples, sum(|cost| cost.triples));
     assert_eq!(answer.openings, sum(|cost| cost.openings()));
+    assert_eq!(answer.revealed, sum(|cost| cost.revealed));
 }
 
 fn check_buffers(sheet: &Sheet, plain: &Plain, outcome: &Outcome) {
@@ -100,8 +101,9 @@ fn a_refused_input_changes_nothing() {
             continue;
         }
         assert!(answer.number >= 9 || answer.place == 0);
-        let counts = [answer.inputs, answer.masks, answer.triples, answer.openings];
-        assert_eq!(counts, [0; 4]);
+        let counts = [answer.inputs, answer.masks, answer.triples];
+        assert_eq!(counts, [0; 3]);
+        assert_eq!((answer.openings, answer.revealed), (0, 0));
         assert_eq!(answer.set, [false; 64]);
         assert_eq!(answer.registers, [[0; 7]; 64]);
         let mut numbers = outcome.record.iter().chain(&outcome.revealed);

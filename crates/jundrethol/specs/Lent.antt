@@ -23,9 +23,9 @@ unfoldable pub flags : List Bool → List ℕ
 flags [] = []
 flags (x ∷ xs) = cond x 1 0 ∷ flags xs
 
--- place, inputs, masks, triples, openings
+-- place, inputs, masks, triples, openings, and how many values were revealed
 abbrev pub counted : Outcome → List ℕ
-counted o = o .place ∷ o .inputs ∷ o .masks ∷ o .triples ∷ o .openings ∷ []
+counted o = o .place ∷ o .inputs ∷ o .masks ∷ o .triples ∷ o .openings ∷ o .values ∷ []
 
 -- The outcome o as C gets it: the number; record and revealed list to their last number; and in three lent lists, of which the first of each
 -- pair is what stood there before the call, registers, marks and counts.

@@ -43,9 +43,9 @@ pub fn put_marks(part: &mut [u8], table: Table)
     }
 }
 
-// Place, inputs, masks, triples, openings.
+// Place, inputs, masks, triples, openings, and how many values were revealed.
 pub fn put_counts(part: &mut [u64], answer: Answer)
-    ensures { λ _. ⌜ now (part .exit) ≡ lent (answer .place ∷ answer .table .spent .inputs ∷ answer .table .spent .masks ∷ answer .table .spent .triples ∷ answer .table .spent .openings ∷ []) (now (part .entry)) ⌝ }
+    ensures { λ _. ⌜ now (part .exit) ≡ lent (answer .place ∷ answer .table .spent .inputs ∷ answer .table .spent .masks ∷ answer .table .spent .triples ∷ answer .table .spent .openings ∷ answer .table .spent .revealed ∷ []) (now (part .entry)) ⌝ }
 {
     let spent = answer.table.spent;
     let counts = [
@@ -54,8 +54,9 @@ pub fn put_counts(part: &mut [u64], answer: Answer)
         spent.masks as u64,
         spent.triples as u64,
         spent.openings as u64,
+        spent.revealed as u64,
     ];
-    let count = least(5, part.len());
+    let count = least(6, part.len());
     let mut j = 0;
     while j < count {
         part[j] = counts[j];

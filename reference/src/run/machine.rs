@@ -150,6 +150,7 @@ impl<'a> Machine<'a> {
             masks: self.sheet.masks.len() - self.work.masks_left(),
             triples: self.sheet.triples.len() - self.work.triples_left(),
             openings: self.openings,
+            revealed: self.reveals,
             registers: self.registers.map(cells),
             set: self.registers.map(|register| register.is_some()),
         }

@@ -102,7 +102,6 @@ fn dealt(index: u64, commands: &[Command], secrets: &[u32], masks: usize) -> Dra
 mod tests {
     use super::*;
     use crate::run_case::Case;
-    use crate::table::values_revealed;
 
     /// The number, the place, inputs, masks, triples, openings, and the values revealed.
     type End = (u32, usize, [usize; 4], &'static [u32]);
@@ -126,8 +125,7 @@ mod tests {
             assert_eq!((answer.number, answer.place), (number, place), "{name}");
             let spent = [answer.inputs, answer.masks, answer.triples, answer.openings];
             assert_eq!(spent, counts, "{name}");
-            let values = values_revealed(&answer);
-            assert_eq!(&outcome.revealed[..values], revealed, "{name}");
+            assert_eq!(&outcome.revealed[..answer.revealed], revealed, "{name}");
         }
         assert_eq!(named("nothing"), None);
     }

@@ -146,7 +146,6 @@ mod tests {
     use super::*;
     use crate::run_case::{Case, Outcome};
     use crate::sheet::header::{LONGEST_SCRIPT, MOST_TRIPLES};
-    use crate::table::values_revealed;
 
     fn outcome(name: &str) -> Outcome {
         Case::with_room(named(name).expect(name)).outcome()
@@ -174,7 +173,7 @@ mod tests {
             let answer = outcome.answer;
             assert_eq!((answer.number, answer.place), (0, script - 1), "{name}");
             assert_eq!((answer.triples, answer.openings), (triples, openings));
-            assert_eq!(values_revealed(&answer), revealed);
+            assert_eq!(answer.revealed, revealed);
             assert_eq!(outcome.record.len(), 7 * openings + 3);
         }
     }

@@ -9,7 +9,7 @@ mod stops;
 use super::draft::Draft;
 use crate::run::{run, Answer};
 use crate::run_case::Case;
-use crate::table::{values_revealed, RECORD, REVEALED};
+use crate::table::{RECORD, REVEALED};
 
 /// What every number of both buffers is before the run, in the model's tables.
 pub const FILLING: u32 = 99;
@@ -56,7 +56,7 @@ impl Held {
         let answer = held.left().answer;
         Held {
             record: answer.openings * usize::from(draft.parties) + 1,
-            revealed: values_revealed(&answer) + 1,
+            revealed: answer.revealed + 1,
             ..held
         }
     }

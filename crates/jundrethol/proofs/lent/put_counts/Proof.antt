@@ -18,7 +18,7 @@ least-requires : tie.Need-least-requires Inv-loop μ-loop
 least-requires c κs = search needs
 
 loop-holds : tie.Need-loop-holds Inv-loop μ-loop
-loop-holds c = lending-start _ _ _ 5 refl (c .least .ensures)
+loop-holds c = lending-start _ _ _ 6 refl (c .least .ensures)
 
 mul-part : tie.Need-mul-part Inv-loop μ-loop
 mul-part c = search needs

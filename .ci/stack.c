@@ -1,0 +1,90 @@
+/* How deep the stack goes in a run of each sheet named, and in each small entry: a call is made on a stack that was filled with one byte, and
+ * the lowest byte that changed tells. Two fillings, so that a byte that happens to be the filling is seen. Exits with 1 if a call goes deeper
+ * than JUNDRETHOL_STACK, or fails. */
+#define _GNU_SOURCE
+#include <stdio.h>
+#include <string.h>
+#include <ucontext.h>
+
+#include "jundrethol.h"
+
+static _Alignas(16) unsigned char stack[8 * JUNDRETHOL_STACK];
+static ucontext_t here, there;
+static uintptr_t top;
+
+static uint8_t sheet[JUNDRETHOL_SHEET_LENGTH];
+static size_t sheet_length;
+
+static void run(void)
+{
+    static uint32_t record[JUNDRETHOL_RECORD_LENGTH], revealed[JUNDRETHOL_REVEALED_LENGTH], registers[JUNDRETHOL_REGISTERS_LENGTH];
+    static uint8_t marks[JUNDRETHOL_MARKS_LENGTH];
+    static uint64_t counts[JUNDRETHOL_COUNTS_LENGTH];
+    top = (uintptr_t)__builtin_frame_address(0);
+    jundrethol_run(sheet, sheet_length, record, JUNDRETHOL_RECORD_LENGTH, revealed, JUNDRETHOL_REVEALED_LENGTH, registers,
+                   JUNDRETHOL_REGISTERS_LENGTH, marks, JUNDRETHOL_MARKS_LENGTH, counts, JUNDRETHOL_COUNTS_LENGTH);
+}
+
+static uint32_t shares[7], coefficients[3] = {1, 2, 3}, value;
+static int64_t number;
+
+static void share(void)
+{
+    top = (uintptr_t)__builtin_frame_address(0);
+    jundrethol_share(3, 7, 3, 5, coefficients, 3, shares, 7);
+}
+
+static void recover(void)
+{
+    top = (uintptr_t)__builtin_frame_address(0);
+    jundrethol_recover(3, 7, 3, &value, shares, 7, coefficients, 3);
+}
+
+static void encode(void)
+{
+    top = (uintptr_t)__builtin_frame_address(0);
+    jundrethol_encode(3, 30, -5, &value);
+}
+
+static void decode(void)
+{
+    top = (uintptr_t)__builtin_frame_address(0);
+    jundrethol_decode(3, value, &number);
+}
+
+static size_t depth(void (*call)(void), int filling)
+{
+    memset(stack, filling, sizeof stack);
+    getcontext(&there);
+    there.uc_stack.ss_sp = stack;
+    there.uc_stack.ss_size = sizeof stack;
+    there.uc_link = &here;
+    makecontext(&there, call, 0);
+    swapcontext(&here, &there);
+    size_t untouched = 0;
+    while (untouched < sizeof stack && stack[untouched] == filling)
+        untouched++;
+    return top - (uintptr_t)&stack[untouched];
+}
+
+static int fits(const char *name, void (*call)(void))
+{
+    size_t one = depth(call, 0xA5), other = depth(call, 0x5A), most = one > other ? one : other;
+    printf("%s: %zu bytes\n", name, most);
+    return most <= JUNDRETHOL_STACK;
+}
+
+int main(int count, char **names)
+{
+    int good = 1;
+    for (int i = 1; i < count; i++) {
+        FILE *file = fopen(names[i], "rb");
+        if (file == NULL)
+            return 1;
+        sheet_length = fread(sheet, 1, sizeof sheet, file);
+        fclose(file);
+        good &= fits(names[i], run);
+    }
+    good &= fits("share", share) & fits("recover", recover) & fits("encode", encode) & fits("decode", decode);
+    return good ? 0 : 1;
+}
