@@ -1,19 +1,20 @@
--- Laws of `Below`, `from`, `total` and `over`.
+-- Laws of `Below`, `from`, `total`, `over` and `ontoAt`.
 -- Assumes nothing.
-use mathlib.Core.Path.{_≡_, refl, ap, _∙_}
+use mathlib.Core.Path.{_≡_, refl, sym, ap, _∙_}
 use mathlib.Core.Bool.{true, false}
 use mathlib.Core.Logic.{_↔_}
 use mathlib.Core.List.{List, [], _∷_, _++_, append-assoc, append-nil, List·Memᴰ as In, List·Memᴰ·head as here, List·Memᴰ·tail as there}
 use Prim.Native.Nat.{ℕ, zero, suc, _+_, _-_, _*_, _≤_, _<_, zero-le}
 use native.Mathlib.Decide.{decLt}
+use native.Mathlib.Nat.{zero-add, suc-add}
 use native.Mathlib.Numerals.{add-one}
 use native.Mathlib.Omega.{arith}
 use borrow.Rule.Slice.PartMut.{putMid, midOf}
 use borrow.Author.Tests.{lt-ltb, le-ltb}
 use lib.Dec.{T, ltb, ltb→lt, lt→ltb}
-use lib.ListN.{length, getD, take, drop, set, length-append, length-drop, drop-of-length-le}
-use lib.Seq.{drop-cons, take-suc, length-take-le, set-at, take-at, drop-at, take-all, drop-drop}
-use Rattle.algebra.specs.Lists.{Below, allBelow, from, total, over}
+use lib.ListN.{length, getD, take, drop, set, length-append, length-drop, drop-of-length-le, take-append-drop}
+use lib.Seq.{drop-cons, take-suc, length-take-le, set-at, take-at, drop-at, take-all, drop-drop, drop-nil}
+use Rattle.algebra.specs.Lists.{Below, allBelow, from, total, onto, ontoAt}
 use Rattle.algebra.proofs.Tests.{and-left, and-right, and-both}
 
 pub below-nil : (p : ℕ) → Below p []
@@ -99,37 +100,37 @@ unfolding total
 total-le b g [] k = zero-le
 total-le b g (x ∷ xs) k = omega (arith, k x (here refl), total-le b g xs (λ z m. k z (there m)))
 
-pub length-over : (vs xs : List ℕ) → length vs ≤ length xs → length (over vs xs) ≡ length xs
-unfolding over
+pub length-over : (vs xs : List ℕ) → length vs ≤ length xs → length (onto vs xs) ≡ length xs
+unfolding onto
 length-over vs xs h = rw (length-append, length-drop) (omega arith)
 
 -- nothing stands behind a write as long as the list
-pub over-all : (vs xs : List ℕ) → length xs ≤ length vs → over vs xs ≡ vs
-unfolding over
+pub over-all : (vs xs : List ℕ) → length xs ≤ length vs → onto vs xs ≡ vs
+unfolding onto
 over-all vs xs h = rw (drop-of-length-le xs {i = length vs} h, append-nil)
 
 -- A loop that writes the first n numbers of vs over the start of xs, one law for each of its needs: after j turns l has j of them.
 pub record Writing (vs xs : List ℕ) (n j : ℕ) (l : List ℕ) : Type 0 where
   pub within : j ≤ n
-  pub is : l ≡ over (take j vs) xs
+  pub is : l ≡ onto (take j vs) xs
 
 pub writing-start : (vs xs : List ℕ) (n : ℕ) → Writing vs xs n 0 xs
-unfolding over
+unfolding onto
 writing-start vs xs n = record { within = omega arith; is = refl }
 
 pub writing-more : {vs xs : List ℕ} {n j : ℕ} {l : List ℕ} {v : ℕ} → Writing vs xs n j l → j < n → n ≤ length vs → n ≤ length xs → v ≡ getD vs j 0
     → Writing vs xs n (j + 1) (set l j v)
 writing-more {vs} {xs} {n} {j} {l} {v} W h hv hx q = record { within = omega arith; is = go (W .is) }
   where
-    go : l ≡ over (take j vs) xs → set l j v ≡ over (take (j + 1) vs) xs
+    go : l ≡ onto (take j vs) xs → set l j v ≡ onto (take (j + 1) vs) xs
     go e =
-        unfold over in
+        unfold onto in
         let s : length (take j vs) ≡ j = length-take-le j vs (omega arith) in
         let s′ : length (take (suc j) vs) ≡ suc j = length-take-le (suc j) vs (omega arith) in
         rw (e, q, add-one, s, s′, drop-cons xs j 0 (omega arith), take-suc vs j 0 (omega arith), append-assoc)
         (set-at (take j vs) (getD xs j 0) (drop (suc j) xs) (getD vs j 0) j s)
 
-pub writing-end : {vs xs : List ℕ} {n j : ℕ} {l : List ℕ} → Writing vs xs n j l → n ≤ j → l ≡ over (take n vs) xs
+pub writing-end : {vs xs : List ℕ} {n j : ℕ} {l : List ℕ} → Writing vs xs n j l → n ≤ j → l ≡ onto (take n vs) xs
 writing-end {n = n} {j} W h = let e : j ≡ n = omega arith in rw e at (W .is)
 
 pub writing-length : {vs xs : List ℕ} {n j : ℕ} {l : List ℕ} → Writing vs xs n j l → n ≤ length vs → n ≤ length xs → length l ≡ length xs
@@ -138,12 +139,86 @@ writing-length {vs} {xs} {n} {j} W hv hx =
     ap length (W .is) ∙ length-over (take j vs) xs (omega arith)
 
 -- A callee that was lent the part of ys from a on wrote vs over it, where us stand over the start of xs: both stand over the start of xs.
-pub over-then : (xs us vs ys last : List ℕ) (a : ℕ) → ys ≡ over us xs → length us ≡ a → last ≡ over vs (midOf a (length ys - a) ys)
-    → putMid a (length ys - a) ys last ≡ over (us ++ vs) xs
-unfolding over
+pub over-then : (xs us vs ys last : List ℕ) (a : ℕ) → ys ≡ onto us xs → length us ≡ a → last ≡ onto vs (midOf a (length ys - a) ys)
+    → putMid a (length ys - a) ys last ≡ onto (us ++ vs) xs
+unfolding onto
 over-then xs us vs ys last a e h w =
     let front : take a ys ≡ us = rw e (take-at us (drop (length us) xs) a h) in
     let back : drop a ys ≡ drop a xs = rw (e, drop-at us (drop (length us) xs) a h, h) in
     let whole : take (length ys - a) (drop a ys) ≡ drop a ys = take-all (length ys - a) (drop a ys) (rw length-drop (omega arith)) in
     let none : drop (length ys - a) (drop a ys) ≡ [] = drop-of-length-le (drop a ys) {i = length ys - a} (rw length-drop (omega arith)) in
     rw (w, whole, none, append-nil, front, back, drop-drop, length-append, h, append-assoc)
+
+-- a write at the start, and one of nothing
+pub onto-at-start : (vs xs : List ℕ) → ontoAt 0 vs xs ≡ onto vs xs
+unfolding ontoAt
+onto-at-start vs xs = refl
+
+pub onto-at-none : (i : ℕ) (xs : List ℕ) → ontoAt i [] xs ≡ xs
+unfolding ontoAt onto
+onto-at-none i xs = take-append-drop i xs
+
+-- A write right behind another: both are one write.
+pub onto-at-then : (i : ℕ) (vs ws xs : List ℕ) → ontoAt (i + length vs) ws (ontoAt i vs xs) ≡ ontoAt i (vs ++ ws) xs
+unfolding ontoAt onto
+onto-at-then zero vs ws xs = rw (zero-add, take-at vs _ (length vs) refl, drop-at vs _ (length vs) refl, drop-drop, length-append, append-assoc)
+onto-at-then (suc i) vs ws [] =
+    let s : length (vs ++ []) ≤ suc i + length vs = rw append-nil (omega arith) in
+    rw (drop-nil (length vs), take-all (suc i + length vs) (vs ++ []) s, drop-of-length-le (vs ++ []) {i = suc i + length vs} s, drop-nil (length ws), drop-nil (length (vs ++ ws)))
+    (simp (append-nil, append-assoc))
+onto-at-then (suc i) vs ws (x ∷ xs) = rw suc-add (ap (λ (l : List ℕ). x ∷ l) (onto-at-then i vs ws xs))
+
+-- the first j numbers, and those behind them, where the write is behind them
+pub take-onto-at : (j i : ℕ) (vs xs : List ℕ) → j ≤ length xs → take j (ontoAt (j + i) vs xs) ≡ take j xs
+unfolding ontoAt
+take-onto-at zero i vs xs h = refl
+take-onto-at (suc j) i vs [] h = absurd (omega arith)
+take-onto-at (suc j) i vs (x ∷ xs) h = rw suc-add (ap (λ (l : List ℕ). x ∷ l) (take-onto-at j i vs xs (omega arith)))
+
+pub drop-onto-at : (j i : ℕ) (vs xs : List ℕ) → j ≤ length xs → drop j (ontoAt (j + i) vs xs) ≡ ontoAt i vs (drop j xs)
+unfolding ontoAt
+drop-onto-at zero i vs xs h = rw zero-add
+drop-onto-at (suc j) i vs [] h = absurd (omega arith)
+drop-onto-at (suc j) i vs (x ∷ xs) h = rw suc-add (drop-onto-at j i vs xs (omega arith))
+
+pub length-onto-at : (i : ℕ) (vs xs : List ℕ) → i + length vs ≤ length xs → length (ontoAt i vs xs) ≡ length xs
+unfolding ontoAt
+length-onto-at i vs xs h =
+    let s : length (take i xs) ≡ i = length-take-le i xs (omega arith) in
+    let k : length vs ≤ length (drop i xs) = rw length-drop (omega arith) in
+    rw (length-append, s, length-over vs (drop i xs) k, length-drop) (omega arith)
+
+set-behind : (us xs : List ℕ) (j v : ℕ) → set (us ++ xs) (length us + j) v ≡ us ++ set xs j v
+set-behind [] xs j v = rw zero-add
+set-behind (u ∷ us) xs j v = rw suc-add (ap (λ (l : List ℕ). u ∷ l) (set-behind us xs j v))
+
+-- The same loop from place i on.
+pub record WritingAt (i : ℕ) (vs xs : List ℕ) (n j : ℕ) (l : List ℕ) : Type 0 where
+  pub behind : List ℕ
+  pub writing : Writing vs (drop i xs) n j behind
+  pub is : l ≡ take i xs ++ behind
+
+pub writing-at-start : (i : ℕ) (vs xs : List ℕ) (n : ℕ) → WritingAt i vs xs n 0 xs
+writing-at-start i vs xs n = record { behind = drop i xs; writing = writing-start vs (drop i xs) n; is = sym (take-append-drop i xs) }
+
+module _ {i : ℕ} {vs xs : List ℕ} {n j : ℕ} {l : List ℕ} (W : WritingAt i vs xs n j l) (hv : n ≤ length vs) (hx : i + n ≤ length xs) where
+  room-behind : n ≤ length (drop i xs)
+  room-behind = rw length-drop (omega arith)
+
+  pub writing-at-more : {v : ℕ} → j < n → v ≡ getD vs j 0 → WritingAt i vs xs n (j + 1) (set l (i + j) v)
+  writing-at-more {v} h q =
+      let s : length (take i xs) ≡ i = length-take-le i xs (omega arith) in
+      record {
+        behind = set (W .behind) j v;
+        writing = writing-more (W .writing) h hv room-behind q;
+        is = ap (λ (ys : List ℕ). set ys (i + j) v) (W .is) ∙ (rw s at (set-behind (take i xs) (W .behind) j v));
+      }
+
+  pub writing-at-end : n ≤ j → l ≡ ontoAt i (take n vs) xs
+  unfolding ontoAt
+  writing-at-end h = W .is ∙ ap (λ (ys : List ℕ). take i xs ++ ys) (writing-end (W .writing) h)
+
+  pub writing-at-length : length l ≡ length xs
+  writing-at-length =
+      let s : length (take i xs) ≡ i = length-take-le i xs (omega arith) in
+      ap length (W .is) ∙ rw (length-append, s, writing-length (W .writing) hv room-behind, length-drop) (omega arith)

@@ -1,12 +1,12 @@
 -- Lists: every number below a bound, no number twice, the same numbers, the first element, runs of numbers, sums, and what a lent list
--- holds after a write at its start.
+-- holds after a write.
 -- Assumes nothing.
 use mathlib.Core.Logic.{_≢_}
 use mathlib.Core.Bool.{Bool, true, false, _&&_}
 use mathlib.Core.List.{List, [], _∷_, _++_, List·Memᴰ as In}
 use Prim.Native.Nat.{ℕ, zero, suc, _+_, _<_}
 use lib.Dec.{ltb, eqb}
-use lib.ListN.{length, getD, drop}
+use lib.ListN.{length, getD, take, drop}
 
 -- every number of xs is below p
 pub record Below (p : ℕ) (xs : List ℕ) : Type 0 where
@@ -54,5 +54,9 @@ total [] g = 0
 total (x ∷ xs) g = g x + total xs g
 
 -- vs written over the start of xs: vs, and then what stood there
-unfoldable pub over : List ℕ → List ℕ → List ℕ
-over vs xs = vs ++ drop (length vs) xs
+unfoldable pub onto : List ℕ → List ℕ → List ℕ
+onto vs xs = vs ++ drop (length vs) xs
+
+-- vs written over xs from place i on: what stood before that place, vs, and then what stood there
+unfoldable pub ontoAt : ℕ → List ℕ → List ℕ → List ℕ
+ontoAt i vs xs = take i xs ++ onto vs (drop i xs)

@@ -8,7 +8,6 @@ ghost use lib.ListN.{length};
 ghost use Rattle.model.specs.Bytes as Bytes;
 use machine::run;
 use outcome::outcome;
-use sharing::rows;
 
 fn main() {
     let mut input = [0u8; 600000];
@@ -54,7 +53,7 @@ fn length_at(s: &[u8], i: usize) -> usize
     requires { ⌜ (12 ≤ length (now s)) × (i ≤ 8) ⌝ }
     ensures { λ r. ⌜ r ≡ Bytes.number 4 (now (s .entry)) i ⌝ }
 {
-    rows::read_word(s, i) as usize
+    words::word(s, i) as usize
 }
 
 // Lends a record of n numbers and a revealed list of m, each 7777777.

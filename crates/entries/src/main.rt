@@ -12,7 +12,6 @@ use report::number::list;
 use report::number::number;
 use report::number::put;
 use report::number::signed;
-use sharing::rows;
 
 fn main() {
     let mut input = [0u8; 131072];
@@ -48,7 +47,7 @@ fn word(s: &[u8], i: usize) -> u32
     requires { ⌜ (length (now s) ≡ 112) × (i ≤ 27) ⌝ }
     ensures { λ r. ⌜ r ≡ wordOf (now (s .entry)) i ⌝ }
 {
-    rows::read_word(s, 4 * i)
+    words::word(s, 4 * i)
 }
 
 // The nine words of a case from word i on.

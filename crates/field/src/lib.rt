@@ -22,35 +22,13 @@ pub struct Decoded {
 pub fn encode(field: u32, k: u32, a: i64) -> Encoded
     ensures { λ r. ⌜ (r .number ≡ encodeNumber field k a) × (r .value ≡ encodeValue field k a) ⌝ }
 {
-    if 3 < field {
-        return Encoded {
-            number: 2,
-            value: 0,
-        };
+    let number = encode_number(field, k, a);
+    if number != 0 {
+        return Encoded { number, value: 0 };
     }
-    let f = field as usize;
-    if k < 2 {
-        return Encoded {
-            number: 11,
-            value: 0,
-        };
-    }
-    if table::largest_k(f) < k {
-        return Encoded {
-            number: 11,
-            value: 0,
-        };
-    }
-    if coding::in_range(k, a) {
-        Encoded {
-            number: 0,
-            value: coding::code(table::modulus(f), a),
-        }
-    } else {
-        Encoded {
-            number: 11,
-            value: 0,
-        }
+    Encoded {
+        number,
+        value: coding::code(table::modulus(field as usize), a),
     }
 }
 
@@ -58,22 +36,39 @@ pub fn encode(field: u32, k: u32, a: i64) -> Encoded
 pub fn decode(field: u32, v: u32) -> Decoded
     ensures { λ r. ⌜ (r .number ≡ decodeNumber field v) × (r .value ≡ decodeValue field v) ⌝ }
 {
-    if 3 < field {
-        return Decoded {
-            number: 2,
-            value: 0,
-        };
+    let number = decode_number(field, v);
+    if number != 0 {
+        return Decoded { number, value: 0 };
+    }
+    Decoded {
+        number,
+        value: coding::read_back(table::modulus(field as usize), v),
+    }
+}
+
+fn encode_number(field: u32, k: u32, a: i64) -> u32
+    ensures { λ r. ⌜ r ≡ encodeNumber field k a ⌝ }
+{
+    let number = table::field_number(field);
+    if number != 0 {
+        return number;
+    }
+    if k < 2 {
+        return 11;
+    }
+    if table::largest_k(field as usize) < k {
+        return 11;
+    }
+    if coding::in_range(k, a) { 0 } else { 11 }
+}
+
+fn decode_number(field: u32, v: u32) -> u32
+    ensures { λ r. ⌜ r ≡ decodeNumber field v ⌝ }
+{
+    let number = table::field_number(field);
+    if number != 0 {
+        return number;
     }
     let p = table::modulus(field as usize);
-    if v < p {
-        Decoded {
-            number: 0,
-            value: coding::read_back(p, v),
-        }
-    } else {
-        Decoded {
-            number: 5,
-            value: 0,
-        }
-    }
+    if v < p { 0 } else { 5 }
 }

@@ -2,6 +2,7 @@
 ghost use mathlib.Core.Path.{_≡_};
 ghost use Prim.Native.Nat.{_<_};
 ghost use Rattle.model.specs.Fields as Fields;
+ghost use Rattle.model.specs.Refusing.{firstFailed};
 
 // Three to a field: p, its bit length, and the largest k.
 const FIELDS: [u32; 12] = [13, 4, 3, 251, 8, 7, 65521, 16, 15, 2147483647, 31, 30];
@@ -42,8 +43,22 @@ const INVERSES: [u32; 32] = [
     1840700269,
 ];
 
+// Whether a field is in use.
+pub fn in_use(field: u32) -> bool
+    ensures { λ r. ⌜ r ≡ Fields.inUse field ⌝ }
+{
+    field < 4
+}
+
+// The refusal of a field's number: 2, or 0.
+pub fn field_number(field: u32) -> u32
+    ensures { λ r. ⌜ r ≡ firstFailed (Fields.fieldTests field) ⌝ }
+{
+    if in_use(field) { 0 } else { 2 }
+}
+
 pub fn modulus(field: usize) -> u32
-    requires { ⌜ field < 4 ⌝ }
+    requires { ⌜ Fields.InUse field ⌝ }
     ensures { λ r. ⌜ (r ≡ Fields.modulus field) × Fields.Modulus r ⌝ }
 {
     FIELDS[3 * field]

@@ -10,7 +10,7 @@ use native.Mathlib.Omega.{arith}
 use Rattle.algebra.specs.Ring.{add, sub, mul}
 use Rattle.algebra.specs.Lists.{from, total, sameList}
 use Rattle.algebra.specs.Rows.{tab, row, padded}
-use Rattle.model.specs.Fields.{modulus, inverse, Parties}
+use Rattle.model.specs.Fields.{modulus, inUse, inverse, Parties}
 use Rattle.model.specs.Sharing.{eval, newton, reciprocal, slope, interpolate, share, Sharing, recover, secret, isSharing, ratio, weight, weighted}
 use Rattle.model.specs.Shamir.{Group}
 use Rattle.figures.specs.TwinSheets.{Groups}
@@ -32,8 +32,8 @@ pub three-and-one : Parties 3 1
 three-and-one = omega arith
 
 pub a-sharing : Sharing 13 3 1 (padded (7 ∷ 9 ∷ 11 ∷ []))
-unfolding add sub mul from tab row inverse eval newton reciprocal slope interpolate share recover sameList isSharing modulus
-a-sharing = test-exact {n = 3} {t = 1} (fields 0 (omega arith) .modulus-is) three-and-one (padded (7 ∷ 9 ∷ 11 ∷ [])) .0 tt
+unfolding add sub mul from tab row inverse eval newton reciprocal slope interpolate share recover sameList isSharing modulus inUse
+a-sharing = test-exact {n = 3} {t = 1} (fields 0 tt .modulus-is) three-and-one (padded (7 ∷ 9 ∷ 11 ∷ [])) .0 tt
 
 -- a list of three
 each : (P : ℕ → Type 0) {a b c : ℕ} → P a → P b → P c → (z : ℕ) → In z (a ∷ b ∷ c ∷ []) → P z

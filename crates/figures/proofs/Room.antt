@@ -4,17 +4,18 @@ use mathlib.Core.Path.{_≡_, refl, sym, subst, _∙_}
 use mathlib.Core.Logic.{_≢_, inr}
 use mathlib.Core.Bool.{Bool, true, false}
 use mathlib.Core.List.{List, [], _∷_}
-use Prim.Native.Nat.{ℕ, zero, suc, _+_, _*_, _≤_, _<_}
+use Prim.Native.Nat.{ℕ, suc, _+_, _*_, _≤_, _<_}
 use native.Mathlib.Nat.{mul-le-mul, min-le-left}
 use native.Mathlib.Omega.{arith}
-use borrow.Author.Tests.{eqb-true, eqb-false, leb-true, le-leb}
-use lib.Dec.{T, leb, eqb, leb→le}
+use borrow.Author.Tests.{leb-true, le-leb}
+use lib.Dec.{T, leb}
 use lib.ListN.{length, getD, drop, length-take}
-use Rattle.algebra.proofs.Tests.{and-true, is-true, true-false, every-at, choice}
+use Rattle.algebra.proofs.Tests.{and-true, is-true, true-false, choice}
 use Rattle.model.specs.Steps.{Setting, Row, Deal}
-use Rattle.model.specs.Script.{Command, END, LOAD, CONST, ADD, SUB, SCALE, MUL, MOD, TRUNC, LTZ, OVER, BLOCKS, REVEAL, BITLT, Line, Script, accepted, refused, sizes, sizeAt, numberAt, withLine, scriptStep, scriptFrom, scriptOf}
-use Rattle.model.specs.Costs.{Cost, costBy, cost}
-use Rattle.model.specs.Sheet.{Header, headerOf, settingOf, scriptIn, inputIn, dealIn}
+use Rattle.model.specs.Script.{Command, Line, Script, accepted, refused, scriptFrom, scriptOf}
+use Rattle.model.specs.Refusing.{firstFailed}
+use Rattle.model.specs.Costs.{cost}
+use Rattle.model.specs.Sheet.{Header, headerOf, headerSize, settingOf, scriptIn, inputIn, dealIn}
 use Rattle.model.specs.Run.{Spent, State, Supply, allSet, check, pay, finish, runLines, nothingSpent, start, supplyOf, runScript, stopOf, outcome, run}
 use Rattle.model.specs.Exactness.{Accepted, Passes, begins, goes}
 use Rattle.model.specs.Refusals.{isRun, Numbered}
@@ -25,7 +26,9 @@ use Rattle.model.proofs.Acceptance.{sound}
 use Rattle.model.proofs.Balance.{Balanced, balanced-more}
 use Rattle.model.proofs.Lengths.{Fitting, fitting}
 use Rattle.model.proofs.Exactness.{exactness}
-use Rattle.model.proofs.Refusals.{Told, told, or-else, numbers, nothing-run}
+use Rattle.model.proofs.Outputs.{Shows, hides, shows, agrees}
+use Rattle.model.proofs.Readings.{size-some, takes-least, every-script}
+use Rattle.model.proofs.Refusals.{either, numbers, nothing-run}
 use Rattle.figures.specs.Room.{recordLength, revealedLength, NoRunOutgrows, AllHeld}
 
 -- a number that is neither of the two
@@ -37,75 +40,40 @@ abbrev Short : List ℕ → ℕ → Script → Type 0
 Short s i (accepted xs end) = i + 2 * length xs < length s
 Short s i (refused number place) = Unit {0}
 
-two-bytes : (b : ℕ) → b < 14 → b ≢ 0 → 2 ≤ getD sizes b 1
-two-bytes zero h k = absurd (k refl)
-two-bytes (suc b) h k = leb→le 2 _ (every-at 13 (λ b. leb 2 (getD sizes (suc b) 1)) tt b (omega arith))
-
-module _ (p K : ℕ) (s : List ℕ) where
-  with-line : (i : ℕ) (x : Line) (rest : Script) → 2 ≤ sizeAt s i → Short s (i + sizeAt s i) rest → Short s i (withLine x rest)
-  with-line i x (accepted xs end) h k = omega arith
-  with-line i x (refused number place) h k = tt
-
-  step : (number i : ℕ) (rest : Script) → Told p K s i number → Short s (i + sizeAt s i) rest → Short s i (scriptStep number s i rest)
-  unfolding sizeAt
-  step (suc number) i rest t k = tt
-  step zero i rest t k =
-      choice (Short s i) (eqb (getD s i 0) 0)
-      (λ _. choice (Short s i) (eqb (i + 1) (length s)) (λ e. omega (arith, eqb-true (i + 1) (length s) e)) (λ _. tt))
-      (λ e. with-line i _ rest (two-bytes (getD s i 0) (t .1 refl) (eqb-false _ _ e)) k)
-
-  short : (most i : ℕ) → Short s i (scriptFrom most p K s i)
-  unfolding scriptFrom
-  short zero i = tt
-  short (suc most) i = step (numberAt p K s i) i _ (told p K s i) (short most (i + sizeAt s i))
-
--- What a command reveals: nothing, or the register that it reads.
-data Shows (c : Cost) : Type 0 where
-  hides : c .revealed ≡ 0 → Shows c
-  shows : (a : ℕ) → c .reads ≡ a ∷ [] → c .revealed ≡ 1 → Shows c
-
-shown-by : (l : ℕ) (c : Command) → Shows (cost l c)
-unfolding costBy
-shown-by l END = hides refl
-shown-by l (LOAD d) = hides refl
-shown-by l (CONST d v) = hides refl
-shown-by l (ADD d a b) = hides refl
-shown-by l (SUB d a b) = hides refl
-shown-by l (SCALE d a v) = hides refl
-shown-by l (MUL d a b) = hides refl
-shown-by l (MOD d a k m) = hides refl
-shown-by l (TRUNC d a k m) = hides refl
-shown-by l (LTZ d a k) = hides refl
-shown-by l (OVER d a k v) = hides refl
-shown-by l (BLOCKS d a k m) = hides refl
-shown-by l (REVEAL a) = shows a refl refl
-shown-by l (BITLT d b w v) = hides refl
+short : (p K : ℕ) (s : List ℕ) (most i : ℕ) → Short s i (scriptFrom most p K s i)
+short p K s =
+    every-script p K s (Short s)
+    (record {
+      ended = λ i S. omega (arith, S .next-is, size-some s i);
+      line = λ i next c S xs end k. let h = rw (S .said-is) at (takes-least s i) in omega (arith, S .next-is);
+      refuses = λ i number place h. tt;
+    })
 
 -- The openings are balanced, and the revealed values and the lines that are left are so many at most.
-record Counts (most : ℕ) (s : Spent) (left : ℕ) : Type 0 where
-  pub balance : Balanced s
-  pub lines : s .revealed + left ≤ most
+record Limited (most : ℕ) (s : Spent) (left : ℕ) : Type 0 where
+  pub balance : Balanced (s .counts)
+  pub lines : s .counts .revealed + left ≤ most
 
 -- Before each line: 511 at most, and 510 once a register is set, since the first line reveals nothing.
 record Before (s : Spent) (left : ℕ) : Type 0 where
-  pub counts : Counts 511 s left
-  pub set : (r : ℕ) → getD (s .marks) r false ≡ true → s .revealed + left ≤ 510
+  pub limited : Limited 511 s left
+  pub set : (r : ℕ) → getD (s .marks) r false ≡ true → s .counts .revealed + left ≤ 510
 
 before-first : (d : Deal) (left : ℕ) → left ≤ 511 → Before (start d .spent) left
 unfolding start nothingSpent
 before-first d left h =
-    record { counts = record { balance = refl; lines = omega arith }; set = λ r m. absurd (true-false (sym m ∙ all-same 64 r false)) }
+    record { limited = record { balance = refl; lines = omega arith }; set = λ r m. absurd (true-false (sym m ∙ all-same 64 r false)) }
 
-before-next : {s : Spent} {left : ℕ} → Counts 510 s left → Before s left
-before-next a = record { counts = record { balance = a .balance; lines = omega arith }; set = λ r m. a .lines }
+before-next : {s : Spent} {left : ℕ} → Limited 510 s left → Before s left
+before-next a = record { limited = record { balance = a .balance; lines = omega arith }; set = λ r m. a .lines }
 
 -- after a command that reads only set registers, which is what 21 tries
-after : (l : ℕ) (c : Command) {s : Spent} {left : ℕ} → Before s (suc left) → allSet (s .marks) (cost l c .reads) ≡ true → Counts 510 (pay (cost l c) s) left
+after : (l : ℕ) (c : Command) {s : Spent} {left : ℕ} → Before s (suc left) → allSet (s .marks) (cost l c .reads) ≡ true → Limited 510 (pay (cost l c) s) left
 unfolding allSet pay
-after l c {s} {left} k t = record { balance = balanced-more l c s (k .counts .balance); lines = go (shown-by l c) }
+after l c {s} {left} k t = record { balance = balanced-more l c s (k .limited .balance); lines = go (agrees l c .shown) }
   where
-    go : Shows (cost l c) → s .revealed + cost l c .revealed + left ≤ 510
-    go (hides e) = omega (arith, k .counts .lines)
+    go : Shows (cost l c) → s .counts .revealed + cost l c .counts .revealed + left ≤ 510
+    go (hides e) = omega (arith, k .limited .lines)
     go (shows a q e) = omega (arith, k .set a (sym (and-true _) ∙ rw q at t))
 
 -- the run of an accepted sheet, by its header
@@ -114,20 +82,21 @@ module _ (h : Header) (fits : Fitting h) (people : h .n ≤ 7) (log shown : ℕ)
   u = supplyOf h log shown
 
   -- with the masks and triples of the sheet there are at most 1,024 + 16 + 510 openings
-  room : {s : Spent} {left : ℕ} → Counts 510 s left → s .masks ≤ h .masks → s .triples ≤ h .triples → (s .openings * h .n ≤ log) × (s .revealed ≤ shown)
+  room : {s : Spent} {left : ℕ} → Limited 510 s left → s .counts .masks ≤ h .masks → s .counts .triples ≤ h .triples
+      → (s .counts .openings * h .n ≤ log) × (s .counts .revealed ≤ shown)
   room {s} a m t =
-      let q : s .openings * h .n ≤ (1024 + 16 + 510) * 7 = mul-le-mul {n₂ = 1024 + 16 + 510} {m₂ = 7} (omega arith) people in
+      let q : s .counts .openings * h .n ≤ (1024 + 16 + 510) * 7 = mul-le-mul {n₂ = 1024 + 16 + 510} {m₂ = 7} (omega arith) people in
       omega arith
 
   -- 25 and 26 are tried after 21, 23 and 24
   checked : (l : ℕ) (c : Command) {s : Spent} {left : ℕ} → Before s (suc left) → Other (check u (cost l c) s)
-  unfolding check pay
+  unfolding check firstFailed pay
   checked l c {s} k =
       let c₁ = cost l c in
       choice Other (allSet (s .marks) (c₁ .reads))
-      (λ r. choice Other (leb (s .inputs + c₁ .inputs) (h .inputs))
-      (λ _. choice Other (leb (s .masks + c₁ .masks) (h .masks))
-      (λ m. choice Other (leb (s .triples + c₁ .triples) (h .triples))
+      (λ r. choice Other (leb (s .counts .inputs + c₁ .counts .inputs) (h .inputs))
+      (λ _. choice Other (leb (s .counts .masks + c₁ .counts .masks) (h .masks))
+      (λ m. choice Other (leb (s .counts .triples + c₁ .counts .triples) (h .triples))
       (λ t.
       let q = room (after l c k r) (leb-true _ _ m) (leb-true _ _ t) in
       rw (le-leb _ _ (q .0), le-leb _ _ (q .1)) (omega arith))
@@ -143,15 +112,15 @@ module _ (h : Header) (fits : Fitting h) (people : h .n ≤ 7) (log shown : ℕ)
     lines [] s k = rw (run-end S u input end s) (omega arith)
     lines (x ∷ xs) s k =
         rw (run-line S u input end x xs s)
-        (or-else Other (check u (cost (S .l) (x .command)) (s .spent)) (x .place) s _ (checked (S .l) (x .command) k)
-        (λ e. lines xs (finish S input (x .command) s) (finished (x .command) s k e)))
+        (either Other (check u (cost (S .l) (x .command)) (s .spent)) _ _
+        (λ e. lines xs (finish S input (x .command) s) (finished (x .command) s k e)) (checked (S .l) (x .command) k))
 
   script : (s : List ℕ) (xs : List Line) (end : ℕ) → Short (scriptIn h s) 0 (accepted xs end)
       → Other (runLines (settingOf h) u (inputIn h s) end xs (start (dealIn h s)) .number)
   unfolding scriptIn
   script s xs end k =
       lines (settingOf h) (inputIn h s) end xs (start (dealIn h s))
-      (before-first (dealIn h s) (length xs) (omega (arith, fits, rw length-take at k, min-le-left (h .script) (length (drop 11 s)))))
+      (before-first (dealIn h s) (length xs) (omega (arith, fits, rw length-take at k, min-le-left (h .script) (length (drop (headerSize h) s)))))
 
 accepted-other : (s : List ℕ) (log shown : ℕ) → recordLength ≤ log → revealedLength ≤ shown → Accepted s → Other (stopOf s log shown .number)
 unfolding stopOf runScript scriptOf
@@ -159,7 +128,7 @@ accepted-other s log shown log-long shown-long a =
     let h = headerOf s in
     let Q = sound s (a .number) in
     rw (a .number, a .script)
-    (script h (fitting h (Q .field) (Q .people .most) (Q .counts)) (Q .people .most) log shown log-long shown-long s (a .lines) (a .end) (subst (Short (scriptIn h s) 0) (a .script) (short _ _ (scriptIn h s) _ 0)))
+    (script h (fitting h (Q .permitted)) (Q .permitted .people .most) log shown log-long shown-long s (a .lines) (a .end) (subst (Short (scriptIn h s) 0) (a .script) (short _ _ (scriptIn h s) _ 0)))
 
 -- 25 and 26 are numbers of accepted sheets only
 pub no-run-outgrows : NoRunOutgrows
@@ -171,7 +140,7 @@ no-run-outgrows s log revealed log-long shown-long =
 
 -- The checks keep both buffers from being outgrown, in every state that a run passes through.
 abbrev Within : Supply → Spent → Type 0
-Within u s = (s .openings * u .parties ≤ u .log) × (s .revealed ≤ u .shown)
+Within u s = (s .counts .openings * u .parties ≤ u .log) × (s .counts .revealed ≤ u .shown)
 
 within : {S : Setting} {u : Supply} {input : List Row} {d : Deal} {xs ys : List Line} {s : State} {vs ws : List ℕ} → Passes S u input d xs ys s vs ws
     → Within u (s .spent)
@@ -186,8 +155,8 @@ all-held s log revealed = go (isRun (run s log revealed .number)) refl
     N : Numbered s (run s log revealed .number) (run s log revealed .place)
     N = numbers .of-run s log revealed
 
-    go : (b : Bool) → isRun (run s log revealed .number) ≡ b → (run s log revealed .openings * headerOf s .n ≤ length log) × (run s log revealed .values ≤ length revealed)
+    go : (b : Bool) → isRun (run s log revealed .number) ≡ b → Within (supplyOf (headerOf s) (length log) (length revealed)) (record { counts = run s log revealed .counts; marks = [] })
     go true e = within (exactness s (length log) (length revealed) (N .is-run .0 (subst T (sym e) tt)) .stops .passes)
     go false e =
         let U = nothing-run s log revealed (λ a. subst T e (N .is-run .1 a)) in
-        rw (U .openings, U .values) (omega arith)
+        rw (U .counts) (omega arith)

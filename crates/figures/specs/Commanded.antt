@@ -24,7 +24,7 @@ triples (suc n) = 6 ∷ 10 ∷ 1 ∷ 7 ∷ 11 ∷ 2 ∷ 10 ∷ 1 ∷ 5 ∷ tripl
 
 -- the run of a sheet with so many input rows: number, masks, triples, openings and the value revealed
 unfoldable pub shownBy : Outcome → List ℕ
-shownBy x = x .number ∷ x .masks ∷ x .triples ∷ x .openings ∷ x .revealed
+shownBy x = x .number ∷ x .counts .masks ∷ x .counts .triples ∷ x .counts .openings ∷ x .revealed
 
 abbrev pub ranWith : ℕ → List ℕ → List ℕ → List ℕ → List ℕ
 ranWith inputs script input mask =
@@ -37,8 +37,8 @@ abbrev pub commanded : List ℕ → List ℕ → List ℕ → List ℕ
 commanded command input mask = ranWith 1 (1 ∷ 0 ∷ (command ++ (12 ∷ 1 ∷ 0 ∷ []))) input mask
 
 -- LOAD 0, LOAD 1, LOAD 2; BITLT 3 0 3 5; REVEAL 3; END
-abbrev pub compared : List ℕ → List ℕ
-compared bits = ranWith 3 (1 ∷ 0 ∷ 1 ∷ 1 ∷ 1 ∷ 2 ∷ 13 ∷ 3 ∷ 0 ∷ 3 ∷ 5 ∷ 0 ∷ 0 ∷ 0 ∷ 12 ∷ 3 ∷ 0 ∷ []) bits fiveShares
+abbrev pub ranBitlt : List ℕ → List ℕ
+ranBitlt bits = ranWith 3 (1 ∷ 0 ∷ 1 ∷ 1 ∷ 1 ∷ 2 ∷ 13 ∷ 3 ∷ 0 ∷ 3 ∷ 5 ∷ 0 ∷ 0 ∷ 0 ∷ 12 ∷ 3 ∷ 0 ∷ []) bits fiveShares
 
 -- number, masks, triples, openings and the value revealed: MOD, TRUNC and BITLT
 unfoldable pub remainders : List Figure
@@ -51,8 +51,8 @@ remainders =
     -- MOD m=2, −1: 3
     ∷ figure (commanded (7 ∷ 1 ∷ 0 ∷ 3 ∷ 2 ∷ []) (3 ∷ 7 ∷ 11 ∷ []) fiveShares) (0 ∷ 1 ∷ 6 ∷ 14 ∷ 3 ∷ [])
     -- BITLT w=3, v=5, bits of 6, of 5: 1, 0; BITLT w=1, v=0, bit 1: 1, no triple
-    ∷ figure (compared (4 ∷ 8 ∷ 12 ∷ 5 ∷ 9 ∷ 0 ∷ 5 ∷ 9 ∷ 0 ∷ [])) (0 ∷ 0 ∷ 2 ∷ 5 ∷ 1 ∷ [])
-    ∷ figure (compared (5 ∷ 9 ∷ 0 ∷ 4 ∷ 8 ∷ 12 ∷ 5 ∷ 9 ∷ 0 ∷ [])) (0 ∷ 0 ∷ 2 ∷ 5 ∷ 0 ∷ [])
+    ∷ figure (ranBitlt (4 ∷ 8 ∷ 12 ∷ 5 ∷ 9 ∷ 0 ∷ 5 ∷ 9 ∷ 0 ∷ [])) (0 ∷ 0 ∷ 2 ∷ 5 ∷ 1 ∷ [])
+    ∷ figure (ranBitlt (5 ∷ 9 ∷ 0 ∷ 4 ∷ 8 ∷ 12 ∷ 5 ∷ 9 ∷ 0 ∷ [])) (0 ∷ 0 ∷ 2 ∷ 5 ∷ 0 ∷ [])
     ∷ figure (commanded (13 ∷ 1 ∷ 0 ∷ 1 ∷ 0 ∷ 0 ∷ 0 ∷ 0 ∷ []) (5 ∷ 9 ∷ 0 ∷ []) fiveShares) (0 ∷ 0 ∷ 0 ∷ 1 ∷ 1 ∷ [])
     ∷ []
 
@@ -70,7 +70,7 @@ signs =
 -- field 2: LOAD 0, the command, REVEAL 1 on the deal `wide`, with room for 86 openings of three shares. The places are those of OVER, and none is
 -- compared.
 unfoldable pub stopShown : Stop → List ℕ
-stopShown x = let s = x .state .spent in x .number ∷ s .masks ∷ s .triples ∷ s .openings ∷ x .state .shown
+stopShown x = let s = x .state .spent .counts in x .number ∷ s .masks ∷ s .triples ∷ s .openings ∷ x .state .shown
 
 abbrev pub performed : Command → Row → List ℕ
 performed c x =

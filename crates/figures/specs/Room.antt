@@ -2,13 +2,13 @@
 -- Assumes nothing.
 use mathlib.Core.Path.{_≡_}
 use mathlib.Core.Logic.{_≢_}
-use mathlib.Core.List.{List}
+use mathlib.Core.Bool.{false}
+use mathlib.Core.List.{List, [], _∷_}
 use Prim.Native.Nat.{ℕ, suc, _*_, _≤_, _<_}
-use lib.Dec.{T, ltb}
 use lib.ListN.{length, take}
-use Rattle.model.specs.Fields.{parties}
-use Rattle.model.specs.Entries.{tried}
-use Rattle.model.specs.Sheet.{Header, headerOf, limits, impliedLength}
+use Rattle.model.specs.Fields.{inUse, parties}
+use Rattle.model.specs.Refusing.{firstFailed}
+use Rattle.model.specs.Sheet.{Header, headerOf, impliedLength, Permitted}
 use Rattle.model.specs.Run.{run}
 use Rattle.model.specs.Exactness.{Accepted}
 
@@ -30,25 +30,19 @@ abbrev pub AllHeld : Type 0
 AllHeld =
     (sheet log revealed : List ℕ)
     → let o = run sheet log revealed in
-    (o .openings * headerOf sheet .n ≤ length log) × (o .values ≤ length revealed)
+    (o .counts .openings * headerOf sheet .n ≤ length log) × (o .counts .revealed ≤ length revealed)
 
 -- "The largest sheet is 59,723 bytes."
 abbrev pub largestSheet : ℕ
 largestSheet = 59723
 
--- a header that 2 and 3 do not refuse, and 4 not for a count
-pub record Permitted (h : Header) : Type 0 where
-  pub field : h .field < 4
-  pub people : T (parties (h .n) (h .t))
-  pub counts : T (limits h)
-
 -- the most of everything: 31 rows to a mask, 7 shares to a row
 abbrev pub largestHeader : Header
 largestHeader = record { field = 3; n = 7; t = 3; inputs = 64; masks = 16; triples = 512; script = 1024 }
 
--- "Input longer than the largest sheet is a wrong length (4, tried after 1 to 3)." 1 does not refuse it, since it has 11 bytes.
+-- "Input longer than the largest sheet is a wrong length (4, tried after 1 to 3)." 1 does not refuse it, since it has the header's bytes.
 abbrev pub longNumber : Header → ℕ
-longNumber h = tried (ltb (h .field) 4) 2 (tried (parties (h .n) (h .t)) 3 4)
+longNumber h = firstFailed ((inUse (h .field), 2) ∷ (parties (h .n) (h .t), 3) ∷ (false, 4) ∷ [])
 
 pub record LargestSheet : Type 0 where
   -- a permitted header implies no more bytes, and one implies so many

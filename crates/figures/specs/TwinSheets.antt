@@ -16,11 +16,11 @@ use Rattle.model.specs.Run.{stopOf}
 use Rattle.model.specs.Secrecy.{Twins, Veil, revealedBy}
 
 -- Field 0, three parties, threshold 1. Party 2 holds the share 3 of both inputs: of 1 + x, with the secret 1, and of 3.
-abbrev pub one : Row
-one = padded (2 ∷ 3 ∷ 4 ∷ [])
+abbrev pub sharedOne : Row
+sharedOne = padded (2 ∷ 3 ∷ 4 ∷ [])
 
-abbrev pub three : Row
-three = padded (3 ∷ 3 ∷ 3 ∷ [])
+abbrev pub sharedThree : Row
+sharedThree = padded (3 ∷ 3 ∷ 3 ∷ [])
 
 -- LOAD 0, MUL 1 0 0, TRUNC 2 0 3 1, MOD 3 0 3 1, REVEAL 3, END: the squares and the halves differ; what is left modulo 2 is 1 of both
 unfoldable pub sheet : Row → List ℕ
@@ -41,16 +41,16 @@ pub record Groups : Type 0 where
 -- With a record of 63 numbers, for 21 openings, and one revealed number both runs come to END. With a record of 62 both stop at REVEAL, "a
 -- refused command included".
 pub record NotEmpty : Type 0 where
-  pub twins : Twins (2 ∷ []) (sheet one) (sheet three)
-  pub revealed : revealedBy (sheet one) 63 1 ≡ revealedBy (sheet three) 63 1
-  pub reveals : revealedBy (sheet one) 63 1 ≡ 1 ∷ []
-  pub first-ends : stopOf (sheet one) 63 1 .number ≡ 0
-  pub second-ends : stopOf (sheet three) 63 1 .number ≡ 0
-  pub first-refused : stopOf (sheet one) 62 1 .number ≡ 25
-  pub second-refused : stopOf (sheet three) 62 1 .number ≡ 25
-  pub refused-revealed : revealedBy (sheet one) 62 1 ≡ revealedBy (sheet three) 62 1
-  pub first-secret : secrets small (inputIn (headerOf (sheet one)) (sheet one)) ≡ 1 ∷ []
-  pub second-secret : secrets small (inputIn (headerOf (sheet three)) (sheet three)) ≡ 3 ∷ []
+  pub twins : Twins (2 ∷ []) (sheet sharedOne) (sheet sharedThree)
+  pub revealed : revealedBy (sheet sharedOne) 63 1 ≡ revealedBy (sheet sharedThree) 63 1
+  pub reveals : revealedBy (sheet sharedOne) 63 1 ≡ 1 ∷ []
+  pub first-ends : stopOf (sheet sharedOne) 63 1 .number ≡ 0
+  pub second-ends : stopOf (sheet sharedThree) 63 1 .number ≡ 0
+  pub first-refused : stopOf (sheet sharedOne) 62 1 .number ≡ 25
+  pub second-refused : stopOf (sheet sharedThree) 62 1 .number ≡ 25
+  pub refused-revealed : revealedBy (sheet sharedOne) 62 1 ≡ revealedBy (sheet sharedThree) 62 1
+  pub first-secret : secrets small (inputIn (headerOf (sheet sharedOne)) (sheet sharedOne)) ≡ 1 ∷ []
+  pub second-secret : secrets small (inputIn (headerOf (sheet sharedThree)) (sheet sharedThree)) ≡ 3 ∷ []
 
 -- LOAD 0, REVEAL 0, END: the same inputs, which the script reveals
 unfoldable pub plain : Row → List ℕ

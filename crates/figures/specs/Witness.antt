@@ -6,6 +6,7 @@ use Prim.Native.Nat.{ℕ}
 use lib.ListN.{take, replicate}
 use Rattle.model.specs.Script.{Command, LOAD, CONST, ADD, SUB, SCALE, MUL, MOD, TRUNC, LTZ, OVER, BLOCKS, REVEAL, BITLT, Line}
 use Rattle.model.specs.Sheet.{secrets, sheetOf}
+use Rattle.model.specs.Counts.{listed}
 use Rattle.model.specs.Run.{Stop, stopOf}
 use Rattle.model.specs.Exactness.{Accepted}
 use Rattle.figures.specs.Figures.{small, of, five}
@@ -33,14 +34,13 @@ sheet =
 unfoldable pub seen : Stop → List (List ℕ)
 seen x =
     let s = x .state in
-    (x .number ∷ x .place ∷ s .spent .inputs ∷ s .spent .masks ∷ s .spent .triples ∷ s .spent .openings ∷ []) ∷ s .shown
-    ∷ secrets small (take 12 (s .registers)) ∷ []
+    (x .number ∷ x .place ∷ listed (s .spent .counts)) ∷ s .shown ∷ secrets small (take 12 (s .registers)) ∷ []
 
 -- It is accepted, and with buffers that are just large enough it stops with 0 at END: 1 input, 5 masks, 26 triples and 58 openings are
--- spent, the value 0 is revealed, and the first twelve registers have these secrets.
+-- spent, one value, 0, is revealed, and the first twelve registers have these secrets.
 pub record Witness : Type 0 where
   pub is-accepted : Accepted sheet
   pub has-lines : is-accepted .lines ≡ lines
   pub has-end : is-accepted .end ≡ 64
   pub stops : seen (stopOf sheet 174 1)
-      ≡ (0 ∷ 64 ∷ 1 ∷ 5 ∷ 26 ∷ 58 ∷ []) ∷ (0 ∷ []) ∷ (12 ∷ 2 ∷ 1 ∷ 10 ∷ 10 ∷ 11 ∷ 1 ∷ 12 ∷ 1 ∷ 0 ∷ 12 ∷ 0 ∷ []) ∷ []
+      ≡ (0 ∷ 64 ∷ 1 ∷ 5 ∷ 26 ∷ 58 ∷ 1 ∷ []) ∷ (0 ∷ []) ∷ (12 ∷ 2 ∷ 1 ∷ 10 ∷ 10 ∷ 11 ∷ 1 ∷ 12 ∷ 1 ∷ 0 ∷ 12 ∷ 0 ∷ []) ∷ []

@@ -8,13 +8,15 @@ use native.Mathlib.Decide.{decLt}
 use native.Mathlib.Omega.{arith}
 use lib.ListN.{length, getD, set, take, drop, length-drop, take-append-drop}
 use lib.Seq.{take-all}
-use Rattle.algebra.specs.Lists.{over}
+use Rattle.algebra.specs.Lists.{onto}
 use Rattle.algebra.proofs.Lists.{Writing, writing-start, writing-more, writing-end, writing-length}
 use Rattle.model.specs.Bytes.{sevens}
+use Rattle.model.specs.Counts.{listed}
 use Rattle.model.specs.Run.{Outcome}
+use Rattle.costs.specs.Costing.{countsOf}
 use Rattle.machine.specs.declared.run.Answer.{Answer}
 use Rattle.machine.specs.Answers.{outcomeOf}
-use Rattle.jundrethol.specs.Lent.{lent, joined, flags, counted, Handed}
+use Rattle.jundrethol.specs.Lent.{lent, joined, flags, Handed}
 
 -- A loop that writes the first n numbers of vs over the start of xs, n being the smaller of their lengths, one law for each of its needs.
 pub record Lending (vs xs : List ℕ) (n j : ℕ) (l : List ℕ) : Type 0 where
@@ -45,7 +47,7 @@ pub lending-length : {vs xs : List ℕ} {n j : ℕ} {l : List ℕ} → Lending v
 lending-length L = writing-length (L .writing) (L .source) (L .places)
 
 pub lending-end : {vs xs : List ℕ} {n j : ℕ} {l : List ℕ} → Lending vs xs n j l → n ≤ j → l ≡ lent vs xs
-lending-end {vs} {xs} {n} L h = writing-end (L .writing) h ∙ (unfold lent in ap (λ ys. over ys xs) (go (decLt n (length vs))))
+lending-end {vs} {xs} {n} L h = writing-end (L .writing) h ∙ (unfold lent in ap (λ ys. onto ys xs) (go (decLt n (length vs))))
   where
     go : Dec (n < length vs) → take n vs ≡ take (length xs) vs
     go (yes l) = ap (λ m. take m vs) (L .least l)
@@ -72,8 +74,8 @@ module _ (a : Answer) {log shown : List ℕ} {o : Outcome} {cells₀ cells marks
   pub handed : length (a .table .cells) ≡ 448
       → outcomeOf a log shown ≡ o
       → cells ≡ lent (a .table .cells) cells₀
-      → marks ≡ lent (flags (a .table .marks)) marks₀
-      → counts ≡ lent (counted (outcomeOf a log shown)) counts₀
+      → marks ≡ lent (flags (a .table .spent .marks)) marks₀
+      → counts ≡ lent (a .place ∷ listed (countsOf (a .table .spent .counts))) counts₀
       → Handed o (a .number) log shown cells₀ cells marks₀ marks counts₀ counts
   handed h e r m k =
       subst (λ (x : Outcome). Handed x (a .number) log shown cells₀ cells marks₀ marks counts₀ counts) e

@@ -5,13 +5,14 @@ use mathlib.Core.Bool.{Bool, cond}
 use mathlib.Core.List.{List, [], _∷_, _++_}
 use Prim.Native.Nat.{ℕ}
 use lib.ListN.{length, take}
-use Rattle.algebra.specs.Lists.{over}
+use Rattle.algebra.specs.Lists.{onto}
 use Rattle.model.specs.Steps.{Row}
+use Rattle.model.specs.Counts.{listed}
 use Rattle.model.specs.Run.{Outcome}
 
 -- as many of vs as the lent list xs has places for, from its start on; past them it is unchanged
 unfoldable pub lent : List ℕ → List ℕ → List ℕ
-lent vs xs = over (take (length xs) vs) xs
+lent vs xs = onto (take (length xs) vs) xs
 
 -- rows one after the other
 unfoldable pub joined : List Row → List ℕ
@@ -23,10 +24,6 @@ unfoldable pub flags : List Bool → List ℕ
 flags [] = []
 flags (x ∷ xs) = cond x 1 0 ∷ flags xs
 
--- place, inputs, masks, triples, openings, and how many values were revealed
-abbrev pub counted : Outcome → List ℕ
-counted o = o .place ∷ o .inputs ∷ o .masks ∷ o .triples ∷ o .openings ∷ o .values ∷ []
-
 -- The outcome o as C gets it: the number; record and revealed list to their last number; and in three lent lists, of which the first of each
 -- pair is what stood there before the call, registers, marks and counts.
 pub record Handed (o : Outcome) (n : ℕ) (log₁ shown₁ cells₀ cells₁ marks₀ marks₁ counts₀ counts₁ : List ℕ) : Type 0 where
@@ -35,4 +32,4 @@ pub record Handed (o : Outcome) (n : ℕ) (log₁ shown₁ cells₀ cells₁ mar
   pub revealed : shown₁ ≡ o .revealed
   pub registers : cells₁ ≡ lent (joined (o .registers)) cells₀
   pub marks : marks₁ ≡ lent (flags (o .marks)) marks₀
-  pub counts : counts₁ ≡ lent (counted o) counts₀
+  pub counts : counts₁ ≡ lent (o .place ∷ listed (o .counts)) counts₀

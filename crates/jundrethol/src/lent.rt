@@ -1,11 +1,13 @@
 // Answers to lists that C lends: as many numbers as the list has places for, and past them it is unchanged.
 ghost use mathlib.Core.Path.{_≡_};
 ghost use mathlib.Core.Bool.{cond};
-ghost use mathlib.Core.List.{[], _∷_};
+ghost use mathlib.Core.List.{_∷_};
 ghost use Prim.Native.Nat.{_≤_, _<_};
+ghost use Rattle.model.specs.Counts.{listed};
+ghost use Rattle.costs.specs.Costing.{countsOf};
 ghost use Rattle.jundrethol.specs.Lent.{lent, flags};
+use costs::counts::Counts;
 use machine::run::Answer;
-use machine::table::Table;
 
 // The smaller of two lengths.
 fn least(a: usize, b: usize) -> usize
@@ -21,35 +23,34 @@ fn flag(set: bool) -> u8
 }
 
 // Register r's cells are those from 7r on.
-pub fn put_cells(part: &mut [u32], table: Table)
-    ensures { λ _. ⌜ now (part .exit) ≡ lent (table .cells) (now (part .entry)) ⌝ }
+pub fn put_cells(part: &mut [u32], cells: [u32; 448])
+    ensures { λ _. ⌜ now (part .exit) ≡ lent cells (now (part .entry)) ⌝ }
 {
     let count = least(448, part.len());
     let mut j = 0;
     while j < count {
-        part[j] = table.cells[j];
+        part[j] = cells[j];
         j += 1;
     }
 }
 
-pub fn put_marks(part: &mut [u8], table: Table)
-    ensures { λ _. ⌜ now (part .exit) ≡ lent (flags (table .marks)) (now (part .entry)) ⌝ }
+pub fn put_marks(part: &mut [u8], marks: [bool; 64])
+    ensures { λ _. ⌜ now (part .exit) ≡ lent (flags marks) (now (part .entry)) ⌝ }
 {
     let count = least(64, part.len());
     let mut j = 0;
     while j < count {
-        part[j] = flag(table.marks[j]);
+        part[j] = flag(marks[j]);
         j += 1;
     }
 }
 
-// Place, inputs, masks, triples, openings, and how many values were revealed.
-pub fn put_counts(part: &mut [u64], answer: Answer)
-    ensures { λ _. ⌜ now (part .exit) ≡ lent (answer .place ∷ answer .table .spent .inputs ∷ answer .table .spent .masks ∷ answer .table .spent .triples ∷ answer .table .spent .openings ∷ answer .table .spent .revealed ∷ []) (now (part .entry)) ⌝ }
+// The place, and the counts in their order.
+pub fn put_counts(part: &mut [u64], place: usize, spent: Counts)
+    ensures { λ _. ⌜ now (part .exit) ≡ lent (place ∷ listed (countsOf spent)) (now (part .entry)) ⌝ }
 {
-    let spent = answer.table.spent;
     let counts = [
-        answer.place as u64,
+        place as u64,
         spent.inputs as u64,
         spent.masks as u64,
         spent.triples as u64,
@@ -62,4 +63,16 @@ pub fn put_counts(part: &mut [u64], answer: Answer)
         part[j] = counts[j];
         j += 1;
     }
+}
+
+// Registers, marks, place and counts of an answer.
+pub fn hand(answer: Answer, registers: &mut [u32], marks: &mut [u8], counts: &mut [u64])
+    ensures { λ _. ⌜ (now (registers .exit) ≡ lent (answer .table .cells) (now (registers .entry))) × (now (marks .exit) ≡ lent (flags (answer .table .spent .marks)) (now (marks .entry))) × (now (counts .exit) ≡ lent (answer .place ∷ listed (countsOf (answer .table .spent .counts))) (now (counts .entry))) ⌝ }
+{
+    let cells = answer.table.cells;
+    put_cells(registers, cells);
+    let spent = answer.table.spent;
+    let set = spent.marks;
+    put_marks(marks, set);
+    put_counts(counts, answer.place, spent.counts);
 }

@@ -21,10 +21,7 @@ pub extern "C" fn jundrethol_run(
     ensures { λ r. ⌜ Handed (Run.run (now (sheet .entry)) (now (log .entry)) (now (revealed .entry))) r (now (log .exit)) (now (revealed .exit)) (now (registers .entry)) (now (registers .exit)) (now (marks .entry)) (now (marks .exit)) (now (counts .entry)) (now (counts .exit)) ⌝ }
 {
     let answer = run::run(sheet, log, revealed);
-    let table = answer.table;
-    lent::put_cells(registers, table);
-    lent::put_marks(marks, table);
-    lent::put_counts(counts, answer);
+    lent::hand(answer, registers, marks, counts);
     answer.number
 }
 

@@ -1,10 +1,9 @@
-pub mod Registers
+pub mod Cells
 pub mod Keeping
-pub mod Places
+pub mod Going
 pub mod Readiness
-pub mod Ranging
-pub mod Marks
-pub mod Checks
-pub mod Stepping
-pub mod Runs
+pub mod Performing
+pub mod Matching
 pub mod Whole
+pub mod Attempts
+pub mod Loop

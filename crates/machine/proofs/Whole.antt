@@ -1,125 +1,176 @@
--- The run of a sheet: refused because of the sheet, refused because of the script, or run to its stop.
+-- The run of a sheet by its frame: the paper's run of the accepted sheet, what is known of the states that it passes through, and the answer.
 -- Assumes nothing.
-use mathlib.Core.Path.{_≡_, refl, sym, ap, _∙_}
+use mathlib.Core.Path.{_≡_, refl, sym, ap, subst, _∙_}
 use mathlib.Core.Logic.{_≢_}
 use mathlib.Core.List.{List}
-use Prim.Native.Nat.{ℕ, zero, suc, _+_, _-_, _<_}
+use Prim.Native.Nat.{ℕ, _+_, _-_, _<_}
 use native.Mathlib.Omega.{arith}
-use lib.ListN.{length, take, drop}
-use Rattle.algebra.specs.Lists.{over}
+use lib.ListN.{length, take, drop, replicate}
+use Rattle.algebra.specs.Lists.{onto}
 use Rattle.model.specs.Bytes.{sevens}
-use Rattle.model.specs.Script.{Script, accepted, refused, scriptOf}
-use Rattle.model.specs.Sheet.{headerOf, settingOf, inputIn, dealIn, scriptIn, sheetNumber}
-use Rattle.model.specs.Run.{Stop, start, nothingSpent, written, outcome, refusedInput, supplyOf, runScript, sheetScript, stopOf, run}
+use Rattle.model.specs.Deal.{Setting, Row, Deal}
+use Rattle.model.specs.Steps.{written}
+use Rattle.model.specs.Script.{Script, Line, accepted, refused, scriptOf}
+use Rattle.model.specs.Checks.{Supply}
+use Rattle.model.specs.Sheet.{headerOf, headerSize, settingOf, scriptIn, inputIn, dealIn, sheetTests, sheetNumber}
+use Rattle.model.specs.Run.{State, start, runLines, outcome, refusedInput, supplyOf, runScript, sheetScript, stopOf, run}
+use Rattle.model.specs.Exactness.{Accepted, Passes}
+use Rattle.model.proofs.Trying.{given-refused}
+use Rattle.model.proofs.Exactness.{exactness}
+use Rattle.model.proofs.Refusals.{numbers}
 use Rattle.sheet.specs.declared.frame.Frame.{Frame}
-use Rattle.sheet.specs.Framed.{Framed, settingIn}
+use Rattle.sheet.specs.declared.header.Read.{Read}
+use Rattle.sheet.specs.declared.header.Read.the-variants.{Sheet, Refused}
+use Rattle.sheet.specs.Framed.{settingIn, Framed}
+use Rattle.sheet.specs.Reading.{numberOf, Reads}
 use Rattle.script.specs.Meaning.{scriptNumber, scriptPlace}
+use Rattle.costs.specs.Costing.{supplyIn}
 use Rattle.machine.specs.declared.run.Answer.{Answer}
-use Rattle.machine.specs.Tables.{emptyTable}
-use Rattle.machine.specs.Holding.{inputsOf, dealOf, supplyIn}
-use Rattle.machine.specs.Answers.{Stopped, stopFrom, refusedAnswer, outcomeOf}
-use Rattle.machine.proofs.Runs.{IsAccepted, number-accepted}
-
-pub not-zero : {n : ℕ} → 0 < n → n ≡ 0 → ⊥
-not-zero h e = omega arith
-
--- nothing is run
-refused-outcome : (n number place : ℕ) (log shown : List ℕ) → outcomeOf (refusedAnswer number place) log shown ≡ outcome n log shown (refusedInput number place)
-unfolding outcome emptyTable start nothingSpent written over sevens
-refused-outcome n number place log shown = refl
-
--- the stop, as the answer says it
-stopped-outcome : {s : List ℕ} {f : Frame} {log₀ shown₀ : List ℕ} {x : Stop} {a : Answer} {log shown : List ℕ} → Stopped s f log₀ shown₀ x a log shown
-    → outcomeOf a log shown ≡ outcome (f .n) log₀ shown₀ x
-unfolding outcome
-stopped-outcome A =
-    λ i. record {
-      number = A .number i;
-      place = A .place i;
-      inputs = A .holds .spent i .inputs;
-      masks = A .holds .spent i .masks;
-      triples = A .holds .spent i .triples;
-      openings = A .holds .spent i .openings;
-      values = A .holds .spent i .revealed;
-      registers = A .holds .registers i;
-      marks = A .holds .spent i .marks;
-      log = A .holds .opened i;
-      revealed = A .holds .revealed i;
-    }
+use Rattle.machine.specs.Holding.{lent, Carries, Counting, inputsOf, dealOf}
+use Rattle.machine.specs.Answers.{Unrefused, Running, RefusedWith, Reaches, outcomeOf}
 
 -- the frame's parts are the header's
 module _ {s : List ℕ} {f : Frame} (F : Framed s f) where
   setting-is : settingIn f ≡ settingOf (headerOf s)
-  setting-is = λ i. record { p = F .p-is i; l = F .l-is i; n = F .n-is i; t = F .t-is i }
+  setting-is = let H = F .headed in λ i. record { p = H .p-is i; l = H .l-is i; n = H .n-is i; t = H .t-is i }
 
   supply-is : (log shown : ℕ) → supplyIn f log shown ≡ supplyOf (headerOf s) log shown
   supply-is log shown =
-      λ i. record { inputs = F .inputs-is i; masks = F .masks-is i; triples = F .triples-is i; parties = F .n-is i; log = log; shown = shown }
+      let H = F .headed in
+      λ i. record { inputs = H .inputs-is i; masks = H .masks-is i; triples = H .triples-is i; parties = H .n-is i; log = log; shown = shown }
 
-  input-place : f .input ≡ 11 + headerOf s .script
-  input-place = F .inputs-place ∙ ap (λ (k : ℕ). 11 + k) (F .script-is)
+  pub input-place : f .input ≡ headerSize (headerOf s) + headerOf s .script
+  input-place = F .headed .inputs-place ∙ ap (λ (k : ℕ). headerSize (headerOf s) + k) (F .headed .script-is)
 
   inputs-are : inputsOf s f ≡ inputIn (headerOf s) s
   unfolding inputIn
-  inputs-are = rw (input-place, F .n-is, F .inputs-is)
+  inputs-are = let H = F .headed in rw (input-place, H .n-is, H .inputs-is)
 
   deal-is : dealOf s f ≡ dealIn (headerOf s) s
   unfolding dealIn
-  deal-is = rw (F .triples-place, F .masks-place, input-place, F .n-is, F .l-is, F .inputs-is, F .masks-is, F .triples-is)
+  deal-is = let H = F .headed in rw (H .triples-place, H .masks-place, input-place, H .n-is, H .l-is, H .inputs-is, H .masks-is, H .triples-is)
 
-  script-is : scriptOf (f .p) (f .largest) (take (f .input - 11) (drop 11 s)) ≡ sheetScript s
-  unfolding scriptIn
-  script-is =
-      let e : 11 + headerOf s .script - 11 ≡ headerOf s .script = omega arith in
-      rw (input-place, e, F .p-is, F .k-is)
+  module _ (A : Accepted s) (log shown : ℕ) where
+    pub stop-is : runLines (settingIn f) (supplyIn f log shown) (inputsOf s f) (A .end) (A .lines) (start (dealOf s f)) ≡ stopOf s log shown
+    unfolding stopOf runScript
+    stop-is = rw (setting-is, supply-is log shown, inputs-are, deal-is, A .number, A .script)
 
-  stop-is : (log shown : ℕ) (x : Script) → IsAccepted x → stopFrom s f log shown x (start (dealOf s f)) ≡ runScript (headerOf s) s log shown x
-  unfolding runScript
-  stop-is log shown x A = rw (A .is, setting-is, supply-is log shown, inputs-are, deal-is)
+    -- the counts of a state that the run passes through
+    pub counting : {ys : List Line} {x : State} {vs ws : List ℕ}
+        → Passes (settingIn f) (supplyIn f log shown) (inputsOf s f) (dealOf s f) (A .lines) ys x vs ws → Counting s f (x .spent .counts) x
+    counting {ys} {x} {vs} {ws} p =
+        let q : Passes (settingOf (headerOf s)) (supplyOf (headerOf s) log shown) (inputIn (headerOf s) s) (dealIn (headerOf s) s) (A .lines) ys x vs ws =
+        subst (λ (d : Deal). Passes (settingOf (headerOf s)) (supplyOf (headerOf s) log shown) (inputIn (headerOf s) s) d (A .lines) ys x vs ws) deal-is
+        (subst (λ (i : List Row). Passes (settingOf (headerOf s)) (supplyOf (headerOf s) log shown) i (dealOf s f) (A .lines) ys x vs ws) inputs-are
+        (subst (λ (u : Supply). Passes (settingOf (headerOf s)) u (inputsOf s f) (dealOf s f) (A .lines) ys x vs ws) (supply-is log shown)
+        (subst (λ (S : Setting). Passes S (supplyIn f log shown) (inputsOf s f) (dealOf s f) (A .lines) ys x vs ws) setting-is p))) in
+        let C = exactness s log shown A .counted ys x vs ws q in
+        record {
+          counts = refl;
+          masks = C .masks-left ∙ ap (λ (d : Deal). drop (x .spent .counts .masks) (d .masks)) (sym deal-is);
+          triples = C .triples-left ∙ ap (λ (d : Deal). drop (x .spent .counts .triples) (d .triples)) (sym deal-is);
+          numbers = rw (F .headed .n-is) (C .numbers);
+          shown = C .shown;
+        }
+
+-- a run begins with nothing written
+pub carries-start : (n : ℕ) (log shown : List ℕ) (d : Deal) → Carries n log shown (lent (replicate 448 0) log shown) (start d)
+unfolding start onto written sevens
+carries-start n log shown d = record { size = refl; registers = refl; log = refl; shown = refl }
+
+-- the promise of `run::run`
+abbrev Answers : List ℕ → List ℕ → List ℕ → Answer → List ℕ → List ℕ → Type 0
+Answers s log₀ shown₀ a log shown = outcomeOf a log shown ≡ run s log₀ shown₀
+
+-- a refused input: "Nothing is run."
+module _ (s : List ℕ) {number place : ℕ} {a : Answer} (N : RefusedWith number place a) where
+  refused-answer : {log shown : List ℕ} → stopOf s (length log) (length shown) ≡ refusedInput number place → Answers s log shown a log shown
+  unfolding run outcome start written onto sevens
+  refused-answer {log} {shown} q =
+      rw q
+      (λ i.
+      record {
+        number = N .number-is i;
+        place = N .place-is i;
+        counts = N .spent i .counts;
+        registers = ap (sevens 64) (N .cells) i;
+        marks = N .spent i .marks;
+        log = log;
+        revealed = shown;
+      })
+
+-- by what reading the sheet answers
+module _ (s : List ℕ) (d : Read) (r : Reads (sheetTests s) (Framed s) d) where
+  pub sheet-refused : {k number : ℕ} {a : Answer} {log shown : List ℕ} → d ≡ Refused k → number ≡ numberOf d → RefusedWith number 0 a
+      → Answers s log shown a log shown
+  unfolding stopOf
+  sheet-refused {k} {number} q e N =
+      let h : (k ≡ sheetNumber s) × (0 < k) = subst (Reads (sheetTests s) (Framed s)) q r in
+      let n : number ≡ sheetNumber s = e ∙ ap numberOf q ∙ h .0 in
+      refused-answer s N (given-refused (sheetNumber s) _ _ (λ z. omega (arith, h .0, h .1, z)) ∙ ap (λ (v : ℕ). refusedInput v 0) (sym n))
+
+  pub unrefused : {f : Frame} → d ≡ Sheet f → Unrefused s f
+  unrefused q = let h = subst (Reads (sheetTests s) (Framed s)) q r in record { framed = h .1; number = sym (h .0) }
+
+-- a sheet is accepted where neither the sheet nor the script has a number
+accepted-sheet : (s : List ℕ) → sheetNumber s ≡ 0 → (x : Script) → sheetScript s ≡ x → scriptNumber x ≡ 0 → Accepted s
+accepted-sheet s ok (accepted xs end) q z = record { lines = xs; end = end; number = ok; script = q }
+accepted-sheet s ok (refused number place) q z = absurd (omega (arith, numbers .of-stop s 0 0 .script number place ok q .2 .0))
 
 script-stops : (s : List ℕ) (log shown : ℕ) (x : Script) → scriptNumber x ≢ 0 → runScript (headerOf s) s log shown x ≡ refusedInput (scriptNumber x) (scriptPlace x)
 unfolding runScript
 script-stops s log shown (accepted xs end) z = absurd (z refl)
 script-stops s log shown (refused number place) z = refl
 
-module _ (s log₀ shown₀ : List ℕ) where
-  abbrev stop : Stop
-  stop = stopOf s (length log₀) (length shown₀)
+-- the script's bytes, which end where the input rows start
+abbrev scriptPart : List ℕ → Frame → List ℕ
+scriptPart s f = take (f .input - (f .input - f .script)) (drop (f .input - f .script) s)
 
-  -- the promise of `run::run`
-  abbrev Answered : Answer → List ℕ → List ℕ → Type 0
-  Answered a log shown = outcomeOf a log shown ≡ run s log₀ shown₀
+module _ {s : List ℕ} {f : Frame} (K : Unrefused s f) where
+  script-bytes : scriptPart s f ≡ scriptIn (headerOf s) s
+  unfolding scriptIn
+  script-bytes =
+      let H = K .framed .headed in
+      let from : f .input - f .script ≡ headerSize (headerOf s) = omega (arith, H .inputs-place) in
+      let size : f .input - headerSize (headerOf s) ≡ headerOf s .script = omega (arith, H .inputs-place, H .script-is) in
+      rw (from, size)
 
-  refused-answer : (number place : ℕ) → stop ≡ refusedInput number place → Answered (refusedAnswer number place) log₀ shown₀
-  unfolding run emptyTable start nothingSpent
-  refused-answer number place e =
-      refused-outcome (headerOf s .n) number place log₀ shown₀ ∙ ap (outcome (headerOf s .n) log₀ shown₀) (sym e)
+  script-read : scriptOf (f .p) (f .largest) (scriptPart s f) ≡ sheetScript s
+  script-read = let H = K .framed .headed in rw (H .p-is, H .k-is, script-bytes)
 
-  pub sheet-refused : (number : ℕ) → number ≡ sheetNumber s → number ≢ 0 → Answered (refusedAnswer number 0) log₀ shown₀
-  unfolding stopOf
-  sheet-refused zero e z = absurd (z refl)
-  sheet-refused (suc number) e z = refused-answer (suc number) 0 (rw (sym e))
+  -- by the script's number
+  module _ {number : ℕ} (e : number ≡ scriptNumber (scriptOf (f .p) (f .largest) (scriptPart s f))) where
+    number-is : number ≡ scriptNumber (sheetScript s)
+    number-is = e ∙ ap scriptNumber script-read
 
-  module _ {f : Frame} (F : Framed s f) (e : 0 ≡ sheetNumber s) where
-    accepted-stop : stop ≡ runScript (headerOf s) s (length log₀) (length shown₀) (sheetScript s)
+    pub script-refused : {place : ℕ} {a : Answer} {log shown : List ℕ} → place ≡ scriptPlace (scriptOf (f .p) (f .largest) (scriptPart s f)) → number ≢ 0
+        → RefusedWith number place a → Answers s log shown a log shown
     unfolding stopOf
-    accepted-stop = rw (sym e)
+    script-refused {place} {a} {log} {shown} m z N =
+        let k : place ≡ scriptPlace (sheetScript s) = m ∙ ap scriptPlace script-read in
+        refused-answer s N (rw (K .number, number-is, k) (script-stops s (length log) (length shown) (sheetScript s) (λ q. z (number-is ∙ q))))
 
-    abbrev script : Script
-    script = scriptOf (f .p) (f .largest) (take (f .input - 11) (drop 11 s))
+    pub running : number ≡ 0 → Running s f (scriptPart s f)
+    running z =
+        record {
+          framed = K .framed;
+          is-accepted = accepted-sheet s (K .number) (sheetScript s) refl (sym number-is ∙ z);
+          script-is = script-bytes;
+        }
 
-    pub script-refused : {number place : ℕ} → (number ≡ scriptNumber script) × (place ≡ scriptPlace script) → number ≢ 0
-        → Answered (refusedAnswer number place) log₀ shown₀
-    script-refused {number} {place} q z =
-        let k : scriptNumber (sheetScript s) ≢ 0 = λ r. z (q .0 ∙ ap scriptNumber (script-is F) ∙ r) in
-        refused-answer number place
-        (accepted-stop ∙ script-stops s (length log₀) (length shown₀) (sheetScript s) k ∙ rw (q .0, q .1, script-is F))
-
-    pub script-run : {a : Answer} {log shown : List ℕ} → scriptNumber script ≡ 0
-        → Stopped s f log₀ shown₀ (stopFrom s f (length log₀) (length shown₀) script (start (dealOf s f))) a log shown → Answered a log shown
-    unfolding scriptOf run
-    script-run z A =
-        let accepts : IsAccepted script = number-accepted (f .p) (f .largest) (take (f .input - 11) (drop 11 s)) _ 0 z in
-        let w : stopFrom s f (length log₀) (length shown₀) script (start (dealOf s f)) ≡ stop =
-        stop-is F (length log₀) (length shown₀) script accepts ∙ ap (runScript (headerOf s) s (length log₀) (length shown₀)) (script-is F) ∙ sym accepted-stop in
-        stopped-outcome A ∙ ap (outcome (f .n) log₀ shown₀) w ∙ rw (F .n-is)
+  -- the stop of a run, as the answer says it
+  pub answers-stop : {log₀ shown₀ log shown : List ℕ} {a : Answer} → Reaches (f .n) log₀ shown₀ (stopOf s (length log₀) (length shown₀)) a log shown
+      → Answers s log₀ shown₀ a log shown
+  unfolding run outcome
+  answers-stop R =
+      (λ i.
+      record {
+        number = R .number i;
+        place = R .place i;
+        counts = R .spent i .counts;
+        registers = R .carries .registers i;
+        marks = R .spent i .marks;
+        log = R .carries .log i;
+        revealed = R .carries .shown i;
+      })
+      ∙ rw (K .framed .headed .n-is)

@@ -1,45 +1,68 @@
--- What a run stops with, and what the answer says.
+-- A finished command, how a run stopped, and what the answer says.
 -- Assumes nothing.
 use mathlib.Core.Path.{_≡_}
 use mathlib.Core.List.{List}
 use Prim.Native.Nat.{ℕ}
+use lib.ListN.{replicate}
 use Rattle.model.specs.Bytes.{sevens}
-use Rattle.model.specs.Script.{Script, accepted, refused}
-use Rattle.model.specs.Run.{State, Stop, Outcome, runLines}
+use Rattle.model.specs.Script.{Command}
+use Rattle.model.specs.Costs.{cost}
+use Rattle.model.specs.Checks.{pay}
+use Rattle.model.specs.Sheet.{headerOf, scriptIn, sheetNumber}
+use Rattle.model.specs.Run as Paper
+use Rattle.model.specs.Exactness.{Accepted}
 use Rattle.sheet.specs.declared.frame.Frame.{Frame}
-use Rattle.sheet.specs.Framed.{settingIn}
+use Rattle.sheet.specs.Framed.{Framed}
+use Rattle.costs.specs.declared.cost.Cost.{Cost}
+use Rattle.costs.specs.Costing.{countsOf, spentOf, Costs, Summing}
 use Rattle.machine.specs.declared.run.Answer.{Answer}
-use Rattle.machine.specs.Tables.{emptyTable}
-use Rattle.machine.specs.Holding.{Holds, inputsOf, supplyIn}
+use Rattle.machine.specs.declared.table.Table.{Table}
+use Rattle.machine.specs.Holding.{lent, Carries, Performs}
 
--- the stop of a script's run from a state on
-abbrev pub stopFrom : List ℕ → Frame → ℕ → ℕ → Script → State → Stop
-stopFrom s f log shown (accepted xs end) x = runLines (settingIn f) (supplyIn f log shown) (inputsOf s f) end xs x
-stopFrom s f log shown (refused number place) x = record { number = number; place = place; state = x }
+-- the cost of a command that is to be paid by a table: it is the paper's, and the sums fit
+pub record Payable (f : Frame) (c : Command) (need : Cost) (t : Table) : Type 0 where
+  pub costs : Costs need (cost (f .l) c)
+  pub summing : Summing (t .spent .counts) (need .counts)
 
--- the answer a, with both buffers after the call, is a stop of the paper's run
-pub record Stopped (s : List ℕ) (f : Frame) (log₀ shown₀ : List ℕ) (x : Stop) (a : Answer) (log shown : List ℕ) : Type 0 where
+-- a command finished: performed, and its cost paid
+pub record Finishes (s : List ℕ) (f : Frame) (c : Command) (t : Table) (log shown : List ℕ) (t′ : Table) (log′ shown′ : List ℕ) : Type 0 where
+  pub paid : spentOf (t′ .spent) ≡ pay (cost (f .l) c) (spentOf (t .spent))
+  pub performs : Performs s f (countsOf (t .spent .counts)) c (lent (t .cells) log shown) (lent (t′ .cells) log′ shown′)
+
+-- The sheet s has this frame, and 1 to 8 do not refuse it.
+pub record Unrefused (s : List ℕ) (f : Frame) : Type 0 where
+  pub framed : Framed s f
+  pub number : sheetNumber s ≡ 0
+
+-- The sheet s is run: it is accepted and has this frame and this script.
+pub record Running (s : List ℕ) (f : Frame) (script : List ℕ) : Type 0 where
+  pub framed : Framed s f
+  pub is-accepted : Accepted s
+  pub script-is : script ≡ scriptIn (headerOf s) s
+
+-- a run stopped as the paper's: number, place and what was spent, and what is lent carries its state
+pub record Reaches (n : ℕ) (log₀ shown₀ : List ℕ) (x : Paper.Stop) (a : Answer) (log shown : List ℕ) : Type 0 where
   pub number : a .number ≡ x .number
   pub place : a .place ≡ x .place
-  pub holds : Holds s f log₀ shown₀ (a .table) log shown (x .state)
+  pub spent : spentOf (a .table .spent) ≡ x .state .spent
+  pub carries : Carries n log₀ shown₀ (lent (a .table .cells) log shown) (x .state)
 
--- "Nothing is run."
-abbrev pub refusedAnswer : ℕ → ℕ → Answer
-refusedAnswer number place = record { number = number; place = place; table = emptyTable }
+-- "Nothing is run": the answer has this number and place, "all registers are unset, all counts 0"
+pub record RefusedWith (number place : ℕ) (a : Answer) : Type 0 where
+  pub number-is : a .number ≡ number
+  pub place-is : a .place ≡ place
+  pub cells : a .table .cells ≡ replicate 448 0
+  pub spent : spentOf (a .table .spent) ≡ Paper.nothingSpent
 
 -- the answer with both lent buffers after the call
-abbrev pub outcomeOf : Answer → List ℕ → List ℕ → Outcome
+abbrev pub outcomeOf : Answer → List ℕ → List ℕ → Paper.Outcome
 outcomeOf a log revealed =
     record {
       number = a .number;
       place = a .place;
-      inputs = a .table .spent .inputs;
-      masks = a .table .spent .masks;
-      triples = a .table .spent .triples;
-      openings = a .table .spent .openings;
-      values = a .table .spent .revealed;
+      counts = countsOf (a .table .spent .counts);
       registers = sevens 64 (a .table .cells);
-      marks = a .table .marks;
+      marks = a .table .spent .marks;
       log = log;
       revealed = revealed;
     }

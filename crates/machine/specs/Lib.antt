@@ -1,3 +1,4 @@
-pub mod Tables
+pub mod Cells
+pub mod Places
 pub mod Holding
 pub mod Answers

@@ -1,8 +1,6 @@
-// The script machine: the table of registers, what a command costs, the checks 21 to 26, and the run of a sheet.
-pub mod check;
-pub mod cost;
+// The script machine: the table of registers, a method for each command, and the run of a sheet.
+pub mod cutting;
 pub mod linear;
-pub mod masking;
 pub mod opening;
 pub mod run;
 pub mod step;

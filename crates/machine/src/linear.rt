@@ -1,57 +1,61 @@
-// The commands that open nothing: LOAD, CONST, ADD, SUB, SCALE.
-ghost use mathlib.Core.List.{List};
-ghost use Prim.Native.Nat.{ℕ, _+_, _≤_, _<_};
-ghost use Rattle.model.specs.Fields as Fields;
-ghost use Rattle.model.specs.Script as Script;
-ghost use Rattle.sheet.specs.Framed.{Framed};
-ghost use Rattle.machine.specs.Holding.{Performs};
+// The commands that open nothing: LOAD, CONST, ADD, SUB and SCALE.
+ghost use mathlib.Core.Path.{_≡_};
+ghost use Prim.Native.Nat.{_+_, _*_, _≤_, _<_};
+ghost use lib.ListN.{length};
+ghost use Rattle.model.specs.Bytes as Bytes;
+ghost use Rattle.model.specs.Steps as Steps;
+ghost use Rattle.sharing.specs.Settings.{settingOf, Fitting};
+ghost use Rattle.costs.specs.Costing.{countsOf};
+ghost use Rattle.machine.specs.Cells.{registerIn, Stored};
+ghost use Rattle.machine.specs.Places.{inputPlace};
 use crate::table::Table;
 use sharing::rows;
+use sharing::setting::Setting;
 use sheet::frame::Frame;
 
 impl Table {
-    // LOAD d
+    // LOAD d: the next input row
     pub fn load(self, f: Frame, s: &[u8], d: usize) -> Table
-        requires { ⌜ Framed (now s) f × (self .spent .inputs + 1 ≤ f .inputs) × (d < 64) ⌝ }
-        ensures { λ r. ⌜ ((log shown : List ℕ) → Performs (now (s .entry)) f (Script.LOAD d) self log shown r log shown) ⌝ }
+        requires { ⌜ (f .n ≤ 7) × (inputPlace f (countsOf (self .spent .counts)) + 4 * f .n ≤ length (now s)) × (d < 64) ⌝ }
+        ensures { λ r. ⌜ Stored d (λ z. z ≡ Bytes.rowAt (now (s .entry)) (f .n) (inputPlace f (countsOf (self .spent .counts)))) (self .cells) (r .cells) × (r .spent ≡ self .spent) ⌝ }
     {
-        let i = f.input + self.spent.inputs * (4 * f.n);
-        let row = rows::read_row(s, f.n, i);
-        self.put(d, row)
+        let counts = self.spent.counts;
+        let i = f.input + counts.inputs * (4 * f.n);
+        self.put(d, rows::read_row(s, f.n, i))
     }
 
     // CONST d v
-    pub fn fill(self, f: Frame, d: usize, v: u32) -> Table
-        requires { ⌜ (f .n ≤ 7) × (d < 64) ⌝ }
-        ensures { λ r. ⌜ ((s log shown : List ℕ) → Performs s f (Script.CONST d v) self log shown r log shown) ⌝ }
+    pub fn fill(self, setting: Setting, d: usize, v: u32) -> Table
+        requires { ⌜ Fitting setting × (d < 64) ⌝ }
+        ensures { λ r. ⌜ Stored d (λ z. z ≡ Steps.constant (settingOf setting) v) (self .cells) (r .cells) × (r .spent ≡ self .spent) ⌝ }
     {
-        self.put(d, rows::constant_row(f.n, v))
+        self.put(d, rows::constant_row(setting, v))
     }
 
     // ADD d a b
-    pub fn add(self, f: Frame, d: usize, a: usize, b: usize) -> Table
-        requires { ⌜ Fields.Modulus (f .p) × (f .n ≤ 7) × (d < 64) × (a < 64) × (b < 64) ⌝ }
-        ensures { λ r. ⌜ ((s log shown : List ℕ) → Performs s f (Script.ADD d a b) self log shown r log shown) ⌝ }
+    pub fn add(self, setting: Setting, d: usize, a: usize, b: usize) -> Table
+        requires { ⌜ Fitting setting × (d < 64) × (a < 64) × (b < 64) ⌝ }
+        ensures { λ r. ⌜ Stored d (λ z. z ≡ Steps.plus (settingOf setting) (registerIn (self .cells) a) (registerIn (self .cells) b)) (self .cells) (r .cells) × (r .spent ≡ self .spent) ⌝ }
     {
-        let row = rows::add_rows(f.p, f.n, self.row(a), self.row(b));
+        let row = rows::add_rows(setting, self.row(a), self.row(b));
         self.put(d, row)
     }
 
     // SUB d a b
-    pub fn sub(self, f: Frame, d: usize, a: usize, b: usize) -> Table
-        requires { ⌜ Fields.Modulus (f .p) × (f .n ≤ 7) × (d < 64) × (a < 64) × (b < 64) ⌝ }
-        ensures { λ r. ⌜ ((s log shown : List ℕ) → Performs s f (Script.SUB d a b) self log shown r log shown) ⌝ }
+    pub fn sub(self, setting: Setting, d: usize, a: usize, b: usize) -> Table
+        requires { ⌜ Fitting setting × (d < 64) × (a < 64) × (b < 64) ⌝ }
+        ensures { λ r. ⌜ Stored d (λ z. z ≡ Steps.minus (settingOf setting) (registerIn (self .cells) a) (registerIn (self .cells) b)) (self .cells) (r .cells) × (r .spent ≡ self .spent) ⌝ }
     {
-        let row = rows::sub_rows(f.p, f.n, self.row(a), self.row(b));
+        let row = rows::sub_rows(setting, self.row(a), self.row(b));
         self.put(d, row)
     }
 
     // SCALE d a v
-    pub fn scale(self, f: Frame, d: usize, a: usize, v: u32) -> Table
-        requires { ⌜ Fields.Modulus (f .p) × (f .n ≤ 7) × (d < 64) × (a < 64) ⌝ }
-        ensures { λ r. ⌜ ((s log shown : List ℕ) → Performs s f (Script.SCALE d a v) self log shown r log shown) ⌝ }
+    pub fn scale(self, setting: Setting, d: usize, a: usize, v: u32) -> Table
+        requires { ⌜ Fitting setting × (d < 64) × (a < 64) ⌝ }
+        ensures { λ r. ⌜ Stored d (λ z. z ≡ Steps.times (settingOf setting) v (registerIn (self .cells) a)) (self .cells) (r .cells) × (r .spent ≡ self .spent) ⌝ }
     {
-        let row = rows::scale_row(f.p, f.n, v, self.row(a));
+        let row = rows::scale_row(setting, v, self.row(a));
         self.put(d, row)
     }
 }

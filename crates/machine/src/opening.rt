@@ -1,47 +1,44 @@
 // The commands that open shares and take no mask: MUL, BITLT and REVEAL.
-ghost use mathlib.Core.List.{List};
-ghost use Prim.Native.Nat.{ℕ, _*_, _<_};
-ghost use lib.ListN.{length};
-ghost use Rattle.model.specs.Script as Script;
-ghost use Rattle.machine.specs.Holding.{Ready, Performs};
+ghost use mathlib.Core.Path.{_≡_};
+ghost use Prim.Native.Nat.{_+_, _-_, _*_, _≤_, _<_};
+ghost use lib.ListN.{length, drop};
+ghost use Rattle.model.specs.Bytes as Bytes;
+ghost use Rattle.model.specs.Steps as Steps;
+ghost use Rattle.sharing.specs.Settings.{settingOf, Fitting};
+ghost use Rattle.steps.specs.Places.{Room};
+ghost use Rattle.steps.specs.Promises.{Leaves};
+ghost use Rattle.machine.specs.Cells.{registerIn, Stored, Revealed};
 use crate::table::Table;
-use sheet::frame::Frame;
+use sharing::setting::Setting;
 use steps::comparison;
+use steps::opening;
+use steps::places::Places;
 use steps::product;
 
 impl Table {
     // MUL d a b
     pub fn multiply(
         self,
-        f: Frame,
+        setting: Setting,
+        at: Places,
         s: &[u8],
         log: &mut [u32],
         d: usize,
         a: usize,
         b: usize,
     ) -> Table
-        requires { ⌜ Ready (now s) f (length (now log)) (Script.MUL d a b) self ⌝ }
-        ensures { λ r. ⌜ ((shown : List ℕ) → Performs (now (s .entry)) f (Script.MUL d a b) self (now (log .entry)) shown r (now (log .exit)) shown) ⌝ }
+        requires { ⌜ Room (now s) (now log) setting at 1 × (d < 64) × (a < 64) × (b < 64) ⌝ }
+        ensures { λ r. ⌜ Stored d (λ z. Leaves (now (s .entry)) setting at 1 (Steps.product (settingOf setting) (registerIn (self .cells) a) (registerIn (self .cells) b)) z (now (log .entry)) (now (log .exit))) (self .cells) (r .cells) × (r .spent ≡ self .spent) ⌝ }
     {
-        let next = self.next(f);
-        let at = next.log;
-        let row = product::product(
-            f.p,
-            f.n,
-            f.t,
-            self.row(a),
-            self.row(b),
-            s,
-            next.triple,
-            &mut log[at..],
-        );
+        let row = product::product(setting, at, s, log, self.row(a), self.row(b));
         self.put(d, row)
     }
 
     // BITLT d b w v
     pub fn compare(
         self,
-        f: Frame,
+        setting: Setting,
+        at: Places,
         s: &[u8],
         log: &mut [u32],
         d: usize,
@@ -49,42 +46,29 @@ impl Table {
         w: usize,
         v: u32,
     ) -> Table
-        requires { ⌜ Ready (now s) f (length (now log)) (Script.BITLT d b w v) self ⌝ }
-        ensures { λ r. ⌜ ((shown : List ℕ) → Performs (now (s .entry)) f (Script.BITLT d b w v) self (now (log .entry)) shown r (now (log .exit)) shown) ⌝ }
+        requires { ⌜ Room (now s) (now log) setting at (w - 1) × (d < 64) × (1 ≤ w) × (w ≤ 31) × (b + w ≤ 64) ⌝ }
+        ensures { λ r. ⌜ Stored d (λ z. Leaves (now (s .entry)) setting at (w - 1) (Steps.comparison (settingOf setting) v (Bytes.sevens w (drop (7 * b) (self .cells)))) z (now (log .entry)) (now (log .exit))) (self .cells) (r .cells) × (r .spent ≡ self .spent) ⌝ }
     {
-        let next = self.next(f);
-        let at = next.log;
         let cells = self.cells;
-        let row = comparison::comparison(
-            f.p,
-            f.n,
-            f.t,
-            v,
-            w,
-            &cells[7 * b..],
-            s,
-            next.triple,
-            &mut log[at..],
-        );
+        let row = comparison::comparison(setting, at, s, log, v, w, &cells[7 * b..]);
         self.put(d, row)
     }
 
-    // REVEAL a: one opening, and its value goes to the revealed list's next free place.
+    // REVEAL a: one opening, and its value goes to the revealed list's next place.
     pub fn reveal(
         self,
-        f: Frame,
-        s: &[u8],
+        setting: Setting,
+        at: Places,
         log: &mut [u32],
         revealed: &mut [u32],
         a: usize,
     ) -> Table
-        requires { ⌜ Ready (now s) f (length (now log)) (Script.REVEAL a) self × (self .spent .revealed < length (now revealed)) ⌝ }
-        ensures { λ r. ⌜ Performs (now (s .entry)) f (Script.REVEAL a) self (now (log .entry)) (now (revealed .entry)) r (now (log .exit)) (now (revealed .exit)) ⌝ }
+        requires { ⌜ Fitting setting × (at .log + setting .n ≤ length (now log)) × (self .spent .counts .revealed < length (now revealed)) × (a < 64) ⌝ }
+        ensures { λ r. ⌜ Revealed setting at (registerIn (self .cells) a) (self .spent .counts .revealed) (now (log .entry)) (now (revealed .entry)) (now (log .exit)) (now (revealed .exit)) × (r ≡ self) ⌝ }
     {
-        let next = self.next(f);
-        let at = next.log;
-        let shown = self.spent.revealed;
-        revealed[shown] = product::open_row(f.p, f.n, f.t, self.row(a), &mut log[at..]);
+        let counts = self.spent.counts;
+        let j = counts.revealed;
+        revealed[j] = opening::open_at(setting, at.log, log, self.row(a));
         self
     }
 }

@@ -1,22 +1,19 @@
 // The run of a sheet.
 ghost use mathlib.Core.Path.{_≡_};
 ghost use lib.ListN.{length};
-ghost use Rattle.model.specs.Script as Script;
 ghost use Rattle.model.specs.Run as Run;
-ghost use Rattle.sheet.specs.Framed.{Framed};
 ghost use Rattle.sheet.specs.Reading.{numberOf};
-ghost use Rattle.script.specs.Meaning.{scriptNumber};
-ghost use Rattle.machine.specs.Holding.{dealOf};
-ghost use Rattle.machine.specs.Answers.{Stopped, stopFrom, refusedAnswer, outcomeOf};
-use crate::check;
-use crate::cost;
+ghost use Rattle.machine.specs.Answers.{Unrefused, Running, Reaches, RefusedWith, outcomeOf};
 use crate::table::Table;
+use costs::check;
+use costs::cost;
+use costs::spent;
 use script::command::Decoded;
 use script::decode;
 use sheet::frame::Frame;
 use sheet::header::Read;
 
-// The paper's number and place, and the table that the run leaves: the registers, which are set, and what was spent.
+// The paper's number and place, and the table that the run leaves.
 pub struct Answer {
     pub number: u32,
     pub place: usize,
@@ -26,31 +23,24 @@ pub struct Answer {
 // The run of a script that 9 to 11 do not refuse, command by command: each is "tried before a command changes anything", and "a refused one
 // ends the run".
 fn run_script(f: Frame, s: &[u8], script: &[u8], log: &mut [u32], revealed: &mut [u32]) -> Answer
-    requires { ⌜ Framed (now s) f × (scriptNumber (Script.scriptOf (f .p) (f .largest) (now script)) ≡ 0) ⌝ }
-    ensures { λ r. ⌜ Stopped (now (s .entry)) f (now (log .entry)) (now (revealed .entry)) (stopFrom (now (s .entry)) f (length (now (log .entry))) (length (now (revealed .entry))) (Script.scriptOf (f .p) (f .largest) (now (script .entry))) (Run.start (dealOf (now (s .entry)) f))) r (now (log .exit)) (now (revealed .exit)) ⌝ }
+    requires { ⌜ Running (now s) f (now script) ⌝ }
+    ensures { λ r. ⌜ Reaches (f .n) (now (log .entry)) (now (revealed .entry)) (Run.stopOf (now (s .entry)) (length (now (log .entry))) (length (now (revealed .entry)))) r (now (log .exit)) (now (revealed .exit)) ⌝ }
 {
+    let supply = spent::supply(f, log.len(), revealed.len());
     let mut table = Table::new();
     let mut at = 0;
     loop {
         let found = decode::decode(f.p, f.largest, script, at);
         let Decoded::Command(c, next) = found else {
             return Answer {
-                number: decode::refusal(found),
+                number: decode::end_of(found).number,
                 place: at,
                 table,
             };
         };
-        if decode::is_end(c) {
-            return Answer {
-                number: 0,
-                place: at,
-                table,
-            };
-        }
-        let need = cost::cost(f, c);
-        let marks = table.marks;
-        let spent = table.spent;
-        let number = check::check(marks, spent, f, c, need, log.len(), revealed.len());
+        let need = cost::cost_of(f, c);
+        let done = table.spent;
+        let number = check::check(done, supply, need);
         if number != 0 {
             return Answer {
                 number,
@@ -65,7 +55,7 @@ fn run_script(f: Frame, s: &[u8], script: &[u8], log: &mut [u32], revealed: &mut
 
 // "Nothing is run": all registers unset, all counts 0.
 fn refused(number: u32, place: usize) -> Answer
-    ensures { λ r. ⌜ r ≡ refusedAnswer number place ⌝ }
+    ensures { λ r. ⌜ RefusedWith number place r ⌝ }
 {
     Answer {
         number,
@@ -84,6 +74,21 @@ fn refusal(read: Read) -> u32
     }
 }
 
+// The run of a sheet that 1 to 8 do not refuse: 9 to 11 are tried on its script, which ends where the input rows start.
+fn run_sheet(f: Frame, sheet: &[u8], log: &mut [u32], revealed: &mut [u32]) -> Answer
+    requires { ⌜ Unrefused (now sheet) f ⌝ }
+    ensures { λ r. ⌜ outcomeOf r (now (log .exit)) (now (revealed .exit)) ≡ Run.run (now (sheet .entry)) (now (log .entry)) (now (revealed .entry)) ⌝ }
+{
+    let end = f.input;
+    let from = end - f.script;
+    let script = &sheet[from..end];
+    let found = script::check::check_script(f.p, f.largest, script);
+    if found.number != 0 {
+        return refused(found.number, found.place);
+    }
+    run_script(f, sheet, script, log, revealed)
+}
+
 // Runs a sheet. Opened shares go to the log, the paper's record, and revealed values to the revealed list, each from its start; past what was
 // written they are unchanged.
 pub fn run(sheet: &[u8], log: &mut [u32], revealed: &mut [u32]) -> Answer
@@ -93,10 +98,5 @@ pub fn run(sheet: &[u8], log: &mut [u32], revealed: &mut [u32]) -> Answer
     let Read::Sheet(f) = read else {
         return refused(refusal(read), 0);
     };
-    let end = f.input;
-    let script = script::check::check_script(f.p, f.largest, &sheet[11..end]);
-    if script.number != 0 {
-        return refused(script.number, script.place);
-    }
-    run_script(f, sheet, &sheet[11..end], log, revealed)
+    run_sheet(f, sheet, log, revealed)
 }

@@ -1,86 +1,50 @@
 // The state of a run, by value.
 ghost use mathlib.Core.Path.{_≡_};
-ghost use Prim.Native.Nat.{_*_, _^_, _≤_, _<_};
-ghost use Rattle.machine.specs.Holding.{maskPlace, triplePlace, logPlace};
-ghost use Rattle.machine.specs.Tables.{emptyTable, putTable, registerIn};
+ghost use Prim.Native.Nat.{_+_, _*_, _≤_, _<_};
+ghost use lib.ListN.{replicate};
+ghost use Rattle.algebra.specs.Lists.{ontoAt};
+ghost use Rattle.model.specs.Checks as Checks;
+ghost use Rattle.model.specs.Run as Run;
+ghost use Rattle.costs.specs.Costing.{countsOf, costOf, spentOf, Summing};
+ghost use Rattle.machine.specs.Cells.{registerIn};
+ghost use Rattle.machine.specs.Places.{placesOf, Reached};
+use costs::cost::Cost;
+use costs::spent;
+use costs::spent::Spent;
+use sharing::rows;
 use sharing::rows::Row;
 use sheet::frame::Frame;
+use steps::places::Places;
 
-// Inputs, masks, triples, openings and revealed values.
-pub struct Counts {
-    pub inputs: usize,
-    pub masks: usize,
-    pub triples: usize,
-    pub openings: usize,
-    pub revealed: usize,
-}
-
-// 64 registers of seven cells each, register r's from cell 7r on; which registers are set; and what was spent.
+// 64 registers of seven cells each, register r's from cell 7r on; and what was spent, with the marks of the registers that are set.
 pub struct Table {
     pub cells: [u32; 448],
-    pub marks: [bool; 64],
-    pub spent: Counts,
-}
-
-// The places of the next mask and triple in the sheet's bytes, and of the next opening in the record.
-pub struct Next {
-    pub mask: usize,
-    pub triple: usize,
-    pub log: usize,
+    pub spent: Spent,
 }
 
 impl Table {
     // "A run starts with all registers unset, all counts 0": the cells of an unset register are 0.
     pub fn new() -> Table
-        ensures { λ r. ⌜ r ≡ emptyTable ⌝ }
+        ensures { λ r. ⌜ (r .cells ≡ replicate 448 0) × (spentOf (r .spent) ≡ Run.nothingSpent) ⌝ }
     {
         Table {
             cells: [0u32; 448],
-            marks: [false; 64],
-            spent: Counts {
-                inputs: 0,
-                masks: 0,
-                triples: 0,
-                openings: 0,
-                revealed: 0,
-            },
-        }
-    }
-
-    pub fn next(self, f: Frame) -> Next
-        requires { ⌜ (f .l ≤ 31) × (f .n ≤ 7) × (maskPlace f self < 2 ^ 64) × (triplePlace f self < 2 ^ 64) × (logPlace f self < 2 ^ 64) ⌝ }
-        ensures { λ r. ⌜ (r .mask ≡ maskPlace f self) × (r .triple ≡ triplePlace f self) × (r .log ≡ logPlace f self) ⌝ }
-    {
-        Next {
-            mask: f.mask + self.spent.masks * (f.l * (4 * f.n)),
-            triple: f.triple + self.spent.triples * (12 * f.n),
-            log: self.spent.openings * f.n,
+            spent: spent::nothing(),
         }
     }
 
     // Register a's row.
     pub fn row(self, a: usize) -> Row
         requires { ⌜ a < 64 ⌝ }
-        ensures { λ r. ⌜ r .shares ≡ registerIn self a ⌝ }
+        ensures { λ r. ⌜ r .shares ≡ registerIn (self .cells) a ⌝ }
     {
-        let i = 7 * a;
-        Row {
-            shares: [
-                self.cells[i],
-                self.cells[i + 1],
-                self.cells[i + 2],
-                self.cells[i + 3],
-                self.cells[i + 4],
-                self.cells[i + 5],
-                self.cells[i + 6],
-            ],
-        }
+        rows::cell_row(&self.cells[..], a)
     }
 
-    // The row goes to register d, which is set then.
+    // The row goes to register d.
     pub fn put(mut self, d: usize, row: Row) -> Table
         requires { ⌜ d < 64 ⌝ }
-        ensures { λ r. ⌜ r ≡ putTable self d (row .shares) ⌝ }
+        ensures { λ r. ⌜ (r .cells ≡ ontoAt (7 * d) (row .shares) (self .cells)) × (r .spent ≡ self .spent) ⌝ }
     {
         let i = 7 * d;
         let mut j = 0;
@@ -88,7 +52,31 @@ impl Table {
             self.cells[i + j] = row.shares[j];
             j += 1;
         }
-        self.marks[d] = true;
         self
+    }
+
+    // The cost of a finished command paid.
+    pub fn paid(mut self, need: Cost) -> Table
+        requires { ⌜ Summing (self .spent .counts) (need .counts) × (need .target .from + need .target .size ≤ 64) ⌝ }
+        ensures { λ r. ⌜ (r .cells ≡ self .cells) × (spentOf (r .spent) ≡ Checks.pay (costOf need) (spentOf (self .spent))) ⌝ }
+    {
+        let before = self.spent;
+        let after = spent::pay(before, need);
+        self.spent = after;
+        self
+    }
+
+    // Where the sheet's bytes and the record go on.
+    pub fn places(self, f: Frame) -> Places
+        requires { ⌜ Reached f (countsOf (self .spent .counts)) ⌝ }
+        ensures { λ r. ⌜ r ≡ placesOf f (countsOf (self .spent .counts)) ⌝ }
+    {
+        let k = self.spent.counts;
+        let n = f.n;
+        Places {
+            mask: f.mask + k.masks * (f.l * (4 * n)),
+            triple: f.triple + k.triples * (12 * n),
+            log: k.openings * n,
+        }
     }
 }

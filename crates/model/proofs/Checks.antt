@@ -1,58 +1,56 @@
 -- What the checks let through, and what the commands that finish spend of one kind: it fits what there is.
 -- Assumes nothing.
 use mathlib.Core.Path.{_≡_, refl}
+use mathlib.Core.Bool.{true}
 use mathlib.Core.List.{List, [], _∷_}
 use Prim.Native.Nat.{ℕ, zero, suc, _+_, _*_, _≤_}
 use native.Mathlib.Omega.{arith}
 use lib.Dec.{T, leb, leb→le}
+use Rattle.algebra.proofs.Tests.{and-left}
+use Rattle.model.specs.Refusing.{given}
 use Rattle.model.specs.Script.{Line}
+use Rattle.model.specs.Counts.{Counts, added}
 use Rattle.model.specs.Costs.{Cost, costBy}
 use Rattle.model.specs.Checks.{Spent, Supply, allSet, check, pay}
-use Rattle.model.specs.Commands.{orStop}
-use Rattle.model.proofs.Entries.{passed}
+use Rattle.model.proofs.Trying.{numbered, holding, all-hold}
 
 -- what the checks let through
 pub record Passed (u : Supply) (c : Cost) (s : Spent) : Type 0 where
   pub reads : T (allSet (s .marks) (c .reads))
-  pub inputs : s .inputs + c .inputs ≤ u .inputs
-  pub masks : s .masks + c .masks ≤ u .masks
-  pub triples : s .triples + c .triples ≤ u .triples
-  pub room : (s .openings + c .openings) * u .parties ≤ u .log
-  pub shown : s .revealed + c .revealed ≤ u .shown
+  pub inputs : s .counts .inputs + c .counts .inputs ≤ u .inputs
+  pub masks : s .counts .masks + c .counts .masks ≤ u .masks
+  pub triples : s .counts .triples + c .counts .triples ≤ u .triples
+  pub room : (s .counts .openings + c .counts .openings) * u .parties ≤ u .log
+  pub shown : s .counts .revealed + c .counts .revealed ≤ u .shown
 
 pub check-passed : (u : Supply) (c : Cost) (s : Spent) → check u c s ≡ 0 → Passed u c s
-unfolding check
+unfolding check numbered holding
 check-passed u c s e =
-    let a = passed (allSet (s .marks) (c .reads)) 20 _ e in
-    let b = passed (leb (s .inputs + c .inputs) (u .inputs)) 21 _ (a .1) in
-    let d = passed (leb (s .masks + c .masks) (u .masks)) 22 _ (b .1) in
-    let f = passed (leb (s .triples + c .triples) (u .triples)) 23 _ (d .1) in
-    let g = passed (leb ((s .openings + c .openings) * u .parties) (u .log)) 24 _ (f .1) in
-    let h = passed (leb (s .revealed + c .revealed) (u .shown)) 25 0 (g .1) in
     record {
-      reads = a .0;
-      inputs = leb→le _ _ (b .0);
-      masks = leb→le _ _ (d .0);
-      triples = leb→le _ _ (f .0);
-      room = leb→le _ _ (g .0);
-      shown = leb→le _ _ (h .0);
+      reads = and-left (allSet (s .marks) (c .reads)) true (all-hold 21 _ tt e);
+      inputs = leb→le _ _ (and-left (leb (s .counts .inputs + c .counts .inputs) (u .inputs)) true (all-hold 22 _ tt e));
+      masks = leb→le _ _ (and-left (leb (s .counts .masks + c .counts .masks) (u .masks)) true (all-hold 23 _ tt e));
+      triples = leb→le _ _ (and-left (leb (s .counts .triples + c .counts .triples) (u .triples)) true (all-hold 24 _ tt e));
+      room = leb→le _ _ (and-left (leb ((s .counts .openings + c .counts .openings) * u .parties) (u .log)) true (all-hold 25 _ tt e));
+      shown = leb→le _ _ (and-left (leb (s .counts .revealed + c .counts .revealed) (u .shown)) true (all-hold 26 _ tt e));
     }
 
 -- what the commands that finish spend of one kind, where MOD takes so many triples
-module _ (triples : ℕ → ℕ) (u : Supply) (f : Cost → ℕ) where
+module _ (triples : ℕ → ℕ) (u : Supply) (f : Counts → ℕ) where
   unfoldable pub tally : List Line → Spent → ℕ
   tally [] s = 0
-  tally (x ∷ xs) s = let c = costBy triples (x .command) in orStop (check u c s) 0 (f c + tally xs (pay c s))
+  tally (x ∷ xs) s = let c = costBy triples (x .command) in given (check u c s) (f (c .counts) + tally xs (pay c s)) 0
 
-  or-fits : (number k a b : ℕ) → a ≤ b → (number ≡ 0 → k + a ≤ b) → orStop number 0 k + a ≤ b
-  or-fits zero k a b l h = h refl
-  or-fits (suc number) k a b l h = omega arith
+  fits : (number k a b : ℕ) → a ≤ b → (number ≡ 0 → k + a ≤ b) → given number k 0 + a ≤ b
+  fits zero k a b l h = h refl
+  fits (suc number) k a b l h = omega arith
 
-  -- `spent` is the count that goes up by f, and `most` what there is of it
-  pub tally-fits : (spent : Spent → ℕ) (most : ℕ) → ((c : Cost) (s : Spent) → spent (pay c s) ≡ spent s + f c)
-      → ((c : Cost) (s : Spent) → check u c s ≡ 0 → spent s + f c ≤ most) → (xs : List Line) (s : Spent) → spent s ≤ most → tally xs s + spent s ≤ most
-  unfolding tally
-  tally-fits spent most e h [] s l = omega arith
-  tally-fits spent most e h (x ∷ xs) s l =
+  -- `most` is what there is of the kind
+  pub tally-fits : (most : ℕ) → ((x y : Counts) → f (added x y) ≡ f x + f y) → ((c : Cost) (s : Spent) → check u c s ≡ 0 → f (s .counts) + f (c .counts) ≤ most)
+      → (xs : List Line) (s : Spent) → f (s .counts) ≤ most → tally xs s + f (s .counts) ≤ most
+  unfolding tally pay
+  tally-fits most e h [] s l = omega arith
+  tally-fits most e h (x ∷ xs) s l =
       let c = costBy triples (x .command) in
-      or-fits (check u c s) _ (spent s) most l (λ z. omega (arith, e c s, tally-fits spent most e h xs (pay c s) (rw (e c s) (h c s z))))
+      fits (check u c s) _ (f (s .counts)) most l
+      (λ z. omega (arith, e (s .counts) (c .counts), tally-fits most e h xs (pay c s) (rw (e (s .counts) (c .counts)) (h c s z))))

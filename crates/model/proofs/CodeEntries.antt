@@ -1,62 +1,83 @@
--- Encode and decode undo each other as entries.
+-- Encode and decode: what they accept, and that they undo each other as entries.
 -- Assumes nothing.
 use mathlib.Core.Path.{_≡_, refl, _∙_}
-use mathlib.Core.Bool.{_&&_}
+use mathlib.Core.Bool.{true}
 use Prim.Native.Nat.{ℕ, _≤_, _<_}
 use lib.Dec.{T, ltb, leb, ltb→lt, lt→ltb, leb→le, le→leb}
 use lib.IntN.{ℤ}
-use Rattle.algebra.proofs.Tests.{and-left, and-right, and-both}
-use Rattle.model.specs.Fields.{modulus, largestK}
+use Rattle.algebra.specs.Lists.{none, one}
+use Rattle.algebra.proofs.Tests.{and-left, and-right}
+use Rattle.model.specs.Fields.{modulus, largestK, InUse, fieldTests}
 use Rattle.model.specs.Coding.{inRange, code, readBack}
-use Rattle.model.specs.Entries.{encodeNumber, encodeValue, decodeNumber, decodeValue}
+use Rattle.model.specs.Entries.{encodeTests, encodeNumber, encodeValue, decodeTests, decodeNumber, decodeValue}
 use Rattle.model.specs.Shamir.{EveryCodeEntry}
 use Rattle.model.proofs.Coding.{every-coding}
-use Rattle.model.proofs.Trying.{given-done}
-use Rattle.model.proofs.Entries.{passed, pass}
+use Rattle.model.proofs.Trying.{given-done, numbered, holding, all-hold, all-pass, both-pass, front-passes, field-numbered, field-passed, field-passes}
 
-module _ (f : ℕ) (h : f < 4) where
-  encode-passed : (k : ℕ) (a : ℤ) → encodeNumber f k a ≡ 0 → ((2 ≤ k) × (k ≤ largestK f)) × T (inRange k a)
-  unfolding encodeNumber
-  encode-passed k a e =
-      let x = passed (ltb f 4) 1 _ e in
-      let y = passed (leb 2 k && leb k (largestK f)) 10 _ (x .1) in
-      let z = passed (inRange k a) 10 0 (y .1) in
-      ((leb→le 2 k (and-left (leb 2 k) _ (y .0)), leb→le k (largestK f) (and-right (leb 2 k) _ (y .0))), z .0)
+-- what encode accepts, and what decode does
+pub record Encodes (f k : ℕ) (a : ℤ) : Type 0 where
+  pub field : InUse f
+  pub least : 2 ≤ k
+  pub most : k ≤ largestK f
+  pub range : T (inRange k a)
 
-  encode-pass : (k : ℕ) (a : ℤ) → 2 ≤ k → k ≤ largestK f → T (inRange k a) → encodeNumber f k a ≡ 0
-  unfolding encodeNumber
-  encode-pass k a l m t =
-      pass (ltb f 4) 2 _ (lt→ltb f 4 h) ∙ pass (leb 2 k && leb k (largestK f)) 11 _ (and-both (leb 2 k) _ (le→leb 2 k l) (le→leb k (largestK f) m))
-      ∙ pass (inRange k a) 11 0 t
+pub record Decodes (f v : ℕ) : Type 0 where
+  pub field : InUse f
+  pub below : v < modulus f
 
-  decode-passed : (v : ℕ) → decodeNumber f v ≡ 0 → v < modulus f
-  unfolding decodeNumber
-  decode-passed v e = ltb→lt v (modulus f) (passed (ltb v (modulus f)) 4 0 (passed (ltb f 4) 1 _ e .1) .0)
+module _ (f k : ℕ) (a : ℤ) where
+  pub encode-accepted : encodeNumber f k a ≡ 0 → Encodes f k a
+  unfolding fieldTests encodeTests holding numbered
+  encode-accepted e =
+      let t = all-hold 11 (encodeTests f k a) tt e in
+      let m = and-right (leb 2 k) _ t in
+      record {
+        field = field-passed f refl (front-passes (fieldTests f) _ (field-numbered f) e);
+        least = leb→le 2 k (and-left (leb 2 k) _ t);
+        most = leb→le k (largestK f) (and-left (leb k (largestK f)) _ m);
+        range = and-left (inRange k a) true (and-right (leb k (largestK f)) _ m);
+      }
 
-  decode-pass : (v : ℕ) → v < modulus f → decodeNumber f v ≡ 0
-  unfolding decodeNumber
-  decode-pass v l = pass (ltb f 4) 2 _ (lt→ltb f 4 h) ∙ pass (ltb v (modulus f)) 5 0 (lt→ltb v (modulus f) l)
+  pub encode-accepts : Encodes f k a → encodeNumber f k a ≡ 0
+  unfolding encodeTests
+  encode-accepts A =
+      both-pass (fieldTests f) _ (field-passes f (A .field))
+      (all-pass (one (le→leb 2 k (A .least)) (one (le→leb k (largestK f) (A .most)) (one (A .range) none))))
 
-  encode-value : (k : ℕ) (a : ℤ) → encodeNumber f k a ≡ 0 → encodeValue f k a ≡ code (modulus f) a
+  pub encode-value : encodeNumber f k a ≡ 0 → encodeValue f k a ≡ code (modulus f) a
   unfolding encodeValue
-  encode-value k a e = given-done _ _ _ e
+  encode-value e = given-done _ _ _ e
 
-  decode-value : (v : ℕ) → decodeNumber f v ≡ 0 → decodeValue f v ≡ readBack (modulus f) v
+module _ (f v : ℕ) where
+  pub decode-accepted : decodeNumber f v ≡ 0 → Decodes f v
+  unfolding fieldTests decodeTests holding numbered
+  decode-accepted e =
+      record {
+        field = field-passed f refl (front-passes (fieldTests f) _ (field-numbered f) e);
+        below = ltb→lt v (modulus f) (and-left (ltb v (modulus f)) true (all-hold 5 (decodeTests f v) tt e));
+      }
+
+  pub decode-accepts : Decodes f v → decodeNumber f v ≡ 0
+  unfolding decodeTests
+  decode-accepts A = both-pass (fieldTests f) _ (field-passes f (A .field)) (all-pass (one (lt→ltb v (modulus f) (A .below)) none))
+
+  pub decode-value : decodeNumber f v ≡ 0 → decodeValue f v ≡ readBack (modulus f) v
   unfolding decodeValue
-  decode-value v e = given-done _ _ _ e
+  decode-value e = given-done _ _ _ e
 
+module _ (f : ℕ) (h : InUse f) where
   decoded : (k : ℕ) (a : ℤ) → encodeNumber f k a ≡ 0 → (decodeNumber f (encodeValue f k a) ≡ 0) × (decodeValue f (encodeValue f k a) ≡ a)
   decoded k a e =
-      let P = encode-passed k a e in
+      let A = encode-accepted f k a e in
       let C = every-coding f h in
-      let N = decode-pass (code (modulus f) a) (C .below a) in
-      rw (encode-value k a e) (N, decode-value (code (modulus f) a) N ∙ C .reading-undoes k a (P .0 .0) (P .0 .1) (P .1))
+      let N = decode-accepts f (code (modulus f) a) (record { field = h; below = C .below a }) in
+      rw (encode-value f k a e) (N, decode-value f (code (modulus f) a) N ∙ C .reading-undoes k a (A .least) (A .most) (A .range))
 
   encoded : (k v : ℕ) → 2 ≤ k → k ≤ largestK f → decodeNumber f v ≡ 0 → T (inRange k (decodeValue f v))
       → (encodeNumber f k (decodeValue f v) ≡ 0) × (encodeValue f k (decodeValue f v) ≡ v)
   encoded k v l m e t =
-      let N = encode-pass k (decodeValue f v) l m t in
-      (N, encode-value k (decodeValue f v) N ∙ rw (decode-value v e) (every-coding f h .coding-undoes v (decode-passed v e)))
+      let N = encode-accepts f k (decodeValue f v) (record { field = h; least = l; most = m; range = t }) in
+      (N, encode-value f k (decodeValue f v) N ∙ rw (decode-value f v e) (every-coding f h .coding-undoes v (decode-accepted f v e .below)))
 
 pub every-code-entry : EveryCodeEntry
 every-code-entry f h = record { decode-undoes = decoded f h; encode-undoes = encoded f h }

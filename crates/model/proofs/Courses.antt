@@ -2,29 +2,28 @@
 -- and reveal does not depend on the deal.
 -- Assumes nothing.
 use mathlib.Core.Path.{_≡_, refl, ap, ap₂, _∙_}
-use mathlib.Core.Bool.{_&&_}
 use mathlib.Core.List.{List, [], _∷_, _++_, List·Memᴰ as In, List·Memᴰ·head as here}
 use Prim.Native.Nat.{ℕ, zero, suc, _+_, _-_, _^_, _<_}
 use native.Mathlib.Omega.{arith}
-use lib.Dec.{T, ltb, ltb→lt}
+use lib.Dec.{T}
 use lib.ListN.{length, getD, set, length-set, length-append}
 use lib.Seq.{getD-set-other}
 use Rattle.algebra.specs.Ring.{add, sub}
 use Rattle.algebra.specs.Lists.{All, none, one}
-use Rattle.algebra.proofs.Tests.{and-left, and-right}
 use Rattle.model.specs.Fields.{Modulus, Parties}
 use Rattle.model.specs.Deal.{noRow}
 use Rattle.model.specs.Trees.{Tree, done, Remainder, RemainderBy, comparison, floor, sign, over, blocks}
 use Rattle.model.specs.Steps.{Setting, Row, rowOps}
-use Rattle.model.specs.Script.{Command, END, LOAD, CONST, ADD, SUB, SCALE, MUL, MOD, TRUNC, LTZ, OVER, BLOCKS, REVEAL, BITLT, Line, register, kIn, inRanges}
+use Rattle.model.specs.Script.{Command, LOAD, CONST, ADD, SUB, SCALE, MUL, MOD, TRUNC, LTZ, OVER, BLOCKS, REVEAL, BITLT, Line, inRanges, outputs}
 use Rattle.model.specs.Costs.{costBy}
 use Rattle.model.specs.Checks.{Spent, Supply, check, pay}
-use Rattle.model.specs.Commands.{Ended, orStop, overLines, registersFrom, command, lines}
+use Rattle.model.specs.Refusing.{given}
+use Rattle.model.specs.Commands.{Ended, throughLines, registersFrom, command, lines}
 use Rattle.model.specs.Sheet.{secrets}
 use Rattle.model.specs.Plain.{quot, negative, exceeds, charged, valuesFrom, plainly, reveals}
 use Rattle.model.specs.Results.{target}
 use Rattle.model.proofs.Each.{no-more, and, each-at, each-set}
-use Rattle.model.proofs.Operands.{Ranges, ranges, sign-ranges}
+use Rattle.model.proofs.Operands.{Ranges, operands}
 use Rattle.model.proofs.Shared.{Shared, Shareds, shared-plus, shared-minus, shared-times, shared-constant, shared-zero}
 use Rattle.model.proofs.Determined.{Determined, d-done, d-multiply, d-reveal, recount, determined-comparison}
 use Rattle.model.proofs.Masked.{DeterminedMod}
@@ -67,11 +66,11 @@ shifted p k a = add p a (2 ^ (k - 1))
 pub record Course (S : Setting) (B : ℕ) (triples : ℕ → ℕ) (input : List Row) (j : ℕ) (c : Command) (vs : List ℕ) {A : Type 0} (Q : A → Type 0)
     (remainder : RemainderBy Row A) : Type 0 where
   pub numbers : List ℕ
-  pub masks : length numbers ≡ costBy triples c .masks
-  pub values : length (reveals c vs) ≡ costBy triples c .revealed
+  pub masks : length numbers ≡ costBy triples c .counts .masks
+  pub values : length (reveals c vs) ≡ costBy triples c .counts .revealed
   pub determined : {xs : List ℕ} {n : ℕ} {ss : List ℕ} (g : List Row) → Shareds S vs g → (go : List Row → Tree Row A)
       → ((w : List Row) → Shareds S (plainly (S .p) (secrets S input) j c vs) w × OthersStay (target c) g w → Determined S B Q xs n ss (go w))
-      → Determined S B Q (numbers ++ xs) (costBy triples c .triples + n) (reveals c vs ++ ss) (command (S .p) (rowOps S) noRow remainder input j c g go)
+      → Determined S B Q (numbers ++ xs) (costBy triples c .counts .triples + n) (reveals c vs ++ ss) (command (S .p) (rowOps S) noRow remainder input j c g go)
 
 module _ (S : Setting) (M : Modulus (S .p)) (P : Parties (S .n) (S .t)) (Z : Shared S 0 noRow) {B K : ℕ} {triples : ℕ → ℕ} where
   -- what rests on MOD
@@ -105,11 +104,10 @@ module _ (S : Setting) (M : Modulus (S .p)) (P : Parties (S .n) (S .t)) (Z : Sha
   module _ {input : List Row} (I : Shareds S (secrets S input) input) where
     module _ {A : Type 0} {Q : A → Type 0} (remainder : RemainderBy Row A) (D : DeterminedMod S B K Q triples (remainder (comparison (rowOps S)))) (j : ℕ) (vs : List ℕ) where
       pub course : (c : Command) → T (inRanges (S .p) K c) → Course S B triples input j c vs Q remainder
-      unfolding command costBy plainly reveals target inRanges
-      course END ok = record { numbers = []; masks = refl; values = refl; determined = λ g G go h. recount (omega arith) (h g (G, kept [] g)) }
+      unfolding command costBy plainly reveals outputs
       course (LOAD d) ok = record { numbers = []; masks = refl; values = refl; determined = λ g G go h. recount (omega arith) (h _ (put d G (shareds-at Z I j))) }
       course (CONST d v) ok =
-          let X = shared-constant S M P (ltb→lt v (S .p) (and-right (register d) _ ok)) in
+          let X = shared-constant S M P (operands (S .p) K (CONST d v) ok .1 .0) in
           record { numbers = []; masks = refl; values = refl; determined = λ g G go h. recount (omega arith) (h _ (put d G X)) }
       course (ADD d a b) ok =
           record { numbers = []; masks = refl; values = refl; determined = λ g G go h. recount (omega arith) (h _ (put d G (shared-plus S M P (shareds-at Z G a) (shareds-at Z G b)))) }
@@ -125,18 +123,20 @@ module _ (S : Setting) (M : Modulus (S .p)) (P : Parties (S .n) (S .t)) (Z : Sha
             determined = λ {xs} {n} g G go h. recount {n = suc n} (omega arith) (d-multiply (shareds-at Z G a) (shareds-at Z G b) (λ z X. h _ (put d G X)));
           }
       course (MOD d a k m) ok =
-          record { numbers = shifted (S .p) k (getD vs a 0) ∷ []; masks = refl; values = refl; determined = λ g G go h. D .determined k m (ranges K d a k m ok) (shareds-at Z G a) (λ z X. h _ (put d G X)) }
+          let R = operands (S .p) K (MOD d a k m) ok in
+          record { numbers = shifted (S .p) k (getD vs a 0) ∷ []; masks = refl; values = refl; determined = λ g G go h. D .determined k m (omega arith) (shareds-at Z G a) (λ z X. h _ (put d G X)) }
       course (TRUNC d a k m) ok =
-          record { numbers = shifted (S .p) k (getD vs a 0) ∷ []; masks = refl; values = refl; determined = λ g G go h. determined-floor D k m (ranges K d a k m ok) (shareds-at Z G a) (λ z X. h _ (put d G X)) }
+          let R = operands (S .p) K (TRUNC d a k m) ok in
+          record { numbers = shifted (S .p) k (getD vs a 0) ∷ []; masks = refl; values = refl; determined = λ g G go h. determined-floor D k m (omega arith) (shareds-at Z G a) (λ z X. h _ (put d G X)) }
       course (LTZ d a k) ok =
-          record { numbers = shifted (S .p) k (getD vs a 0) ∷ []; masks = refl; values = refl; determined = λ g G go h. determined-sign D k (sign-ranges K d a k ok) (shareds-at Z G a) (λ z X. h _ (put d G X)) }
+          let R = operands (S .p) K (LTZ d a k) ok in
+          record { numbers = shifted (S .p) k (getD vs a 0) ∷ []; masks = refl; values = refl; determined = λ g G go h. determined-sign D k (omega arith) (shareds-at Z G a) (λ z X. h _ (put d G X)) }
       course (OVER d a k v) ok =
-          let rs = register d && register a && kIn K k in
-          let R = sign-ranges K d a k (and-left rs (ltb v (S .p)) ok) in
-          let l = ltb→lt v (S .p) (and-right rs (ltb v (S .p)) ok) in
-          record { numbers = shifted (S .p) k (sub (S .p) v (getD vs a 0)) ∷ []; masks = refl; values = refl; determined = λ g G go h. determined-over D k v R l (shareds-at Z G a) (λ z X. h _ (put d G X)) }
+          let R = operands (S .p) K (OVER d a k v) ok in
+          record { numbers = shifted (S .p) k (sub (S .p) v (getD vs a 0)) ∷ []; masks = refl; values = refl; determined = λ g G go h. determined-over D k v (omega arith) (omega arith) (shareds-at Z G a) (λ z X. h _ (put d G X)) }
       course (BLOCKS d a k m) ok =
-          record { numbers = shifted (S .p) k (getD vs a 0) ∷ []; masks = refl; values = refl; determined = λ g G go h. determined-blocks D k m (ranges K d a k m ok) (shareds-at Z G a) (λ z X. h _ (put d G X)) }
+          let R = operands (S .p) K (BLOCKS d a k m) ok in
+          record { numbers = shifted (S .p) k (getD vs a 0) ∷ []; masks = refl; values = refl; determined = λ g G go h. determined-blocks D k m (omega arith) (shareds-at Z G a) (λ z X. h _ (put d G X)) }
       course (REVEAL a) ok =
           record { numbers = []; masks = refl; values = refl; determined = λ g G go h. recount (omega arith) (d-reveal (shareds-at Z G a) (h g (G, kept [] g))) }
       course (BITLT d b w v) ok =
@@ -157,7 +157,7 @@ pub record TreeCourse (S : Setting) (B : ℕ) (vs : List ℕ) (masks triples : �
   pub determined : (g : List Row) → Shareds S vs g → Determined S B (λ e. Unit {0}) numbers triples shown (T g)
 
 stop-course : {S : Setting} {B : ℕ} {vs : List ℕ} {m n : ℕ} {T : List Row → Tree Row (Ended Row)} (number : ℕ) (e : List Row → Ended Row) → TreeCourse S B vs m n T
-    → TreeCourse S B vs (orStop number 0 m) (orStop number 0 n) (λ g. orStop number (done (e g)) (T g))
+    → TreeCourse S B vs (given number m 0) (given number n 0) (λ g. given number (T g) (done (e g)))
 stop-course zero e C = C
 stop-course (suc number) e C = record { numbers = []; shown = []; many = refl; determined = λ g G. d-done tt }
 
@@ -166,12 +166,12 @@ module _ (S : Setting) (M : Modulus (S .p)) (P : Parties (S .n) (S .t)) (Z : Sha
     (D : DeterminedMod S B K (λ (e : Ended Row). Unit {0}) triples (remainder (comparison (rowOps S)))) (u : Supply) {input : List Row} (I : Shareds S (secrets S input) input) (end : ℕ) where
   pub lines-course : {xs : List Line} → All (λ x. T (inRanges (S .p) K (x .command))) xs → (s : Spent) (vs : List ℕ)
       → TreeCourse S B vs (tally triples u (λ c. c .masks) xs s) (tally triples u (λ c. c .triples) xs s) (lines (S .p) (rowOps S) noRow remainder triples u input end xs s)
-  unfolding overLines tally
+  unfolding throughLines tally
   lines-course none s vs = record { numbers = []; shown = []; many = refl; determined = λ g G. d-done tt }
   lines-course (one {x = x} {xs = xs} ok oks) s vs =
       let c = costBy triples (x .command) in
-      let C = course S M P Z I remainder D (s .inputs) vs (x .command) ok in
-      let rest = lines-course oks (pay c s) (plainly (S .p) (secrets S input) (s .inputs) (x .command) vs) in
+      let C = course S M P Z I remainder D (s .counts .inputs) vs (x .command) ok in
+      let rest = lines-course oks (pay c s) (plainly (S .p) (secrets S input) (s .counts .inputs) (x .command) vs) in
       stop-course (check u c s) _
       (record {
         numbers = C .numbers ++ rest .numbers;

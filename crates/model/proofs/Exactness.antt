@@ -1,30 +1,32 @@
 -- Exactness and counts of whole runs: by the states that a run passes through.
 -- Assumes nothing.
 use mathlib.Core.Path.{_≡_, refl, sym, ap, _∙_}
-use mathlib.Core.Bool.{false}
 use mathlib.Core.List.{List, [], _∷_, _++_, append-assoc}
 use Prim.Native.Nat.{ℕ, zero, suc, _+_, _*_}
 use native.Mathlib.Omega.{arith}
 use lib.ListN.{replicate}
 use Rattle.algebra.specs.Lists.{All, one}
 use Rattle.model.specs.Steps.{Setting, Row, Deal}
-use Rattle.model.specs.Script.{isEnd, Line}
-use Rattle.model.specs.Costs.{Cost, cost}
+use Rattle.model.specs.Script.{Line}
+use Rattle.model.specs.Refusing as Refusing
+use Rattle.model.specs.Counts.{Counts, added}
+use Rattle.model.specs.Costs.{cost}
 use Rattle.model.specs.Sheet.{secrets}
-use Rattle.model.specs.Run.{Supply, State, check, pay, finish, nothingSpent, start, orElse, runLines, runScript, stopOf}
+use Rattle.model.specs.Run.{Supply, State, check, pay, finish, nothingSpent, start, runLines, runScript, stopOf}
 use Rattle.model.specs.Plain.{plainly, reveals}
 use Rattle.model.specs.Results.{Does}
-use Rattle.model.specs.Exactness.{Passes, begins, goes, Right, sumOf, Counted, at-end, at-line, Stopped, Exactness}
+use Rattle.model.specs.Exactness.{Passes, begins, goes, Right, loads, sumOf, Counted, at-end, at-line, Stopped, Exactness}
 use Rattle.model.proofs.Each.{each-length}
 use Rattle.model.proofs.Written.{length-written}
 use Rattle.model.proofs.Sharings.{length-sharing}
 use Rattle.model.proofs.StepLaws.{run-end, run-line}
+use Rattle.model.proofs.Counts.{added-none, none-added, added-assoc}
 use Rattle.model.proofs.Checks.{Passed, check-passed}
 use Rattle.model.proofs.Courses.{shareds-at}
 use Rattle.model.proofs.Held.{Holds, holds-start, Given, none-shared, finished}
 use Rattle.model.proofs.Balance.{Balanced, balanced-start, balanced-more}
 use Rattle.model.proofs.Performed.{does}
-use Rattle.model.proofs.Acceptance.{sound, all-map, given, InRange, lines-ok, lines-go-on}
+use Rattle.model.proofs.Acceptance.{sound, all-map, given, InRange, lines-ok}
 
 all-head : {A : Type 0} {P : A → Type 0} {x : A} {xs : List A} → All P (x ∷ xs) → P x
 all-head (one p ps) = p
@@ -33,27 +35,27 @@ all-tail : {A : Type 0} {P : A → Type 0} {x : A} {xs : List A} → All P (x �
 all-tail (one p ps) = ps
 
 -- sums over one more line, and what a finished command adds
-sum-more : (l : ℕ) (f : Cost → ℕ) (xs : List Line) (x : Line) → sumOf l f (xs ++ (x ∷ [])) ≡ sumOf l f xs + f (cost l (x .command))
+sum-more : (l : ℕ) (xs : List Line) (x : Line) → sumOf l (xs ++ (x ∷ [])) ≡ added (sumOf l xs) (cost l (x .command) .counts)
 unfolding sumOf
-sum-more l f [] x = omega arith
-sum-more l f (y ∷ ys) x = rw (sum-more l f ys x) (omega arith)
+sum-more l [] x = added-none _ ∙ sym (none-added _)
+sum-more l (y ∷ ys) x = ap (added (cost l (y .command) .counts)) (sum-more l ys x) ∙ sym (added-assoc _ _ _)
 
-module _ {S : Setting} {K : ℕ} {u : Supply} {input : List Row} {d : Deal} (G : Given S K u input d) (xs : List Line) (ok : All (InRange (S .p) K) xs)
-    (are : All (λ x. isEnd (x .command) ≡ false) xs) where
+-- of them, the inputs
+loads-are : (l : ℕ) (xs : List Line) → sumOf l xs .inputs ≡ loads l xs
+unfolding sumOf loads
+loads-are l [] = refl
+loads-are l (x ∷ xs) = ap (λ (k : ℕ). cost l (x .command) .counts .inputs + k) (loads-are l xs)
+
+module _ {S : Setting} {K : ℕ} {u : Supply} {input : List Row} {d : Deal} (G : Given S K u input d) (xs : List Line) (ok : All (InRange (S .p) K) xs) where
   -- what is known after each finished command
   record Known (ys : List Line) (s : State) (vs ws : List ℕ) : Type 0 where
     pub holds : Holds S d s vs
     pub shown : s .shown ≡ ws
-    pub balance : Balanced (s .spent)
+    pub balance : Balanced (s .spent .counts)
     pub ranges : All (InRange (S .p) K) ys
-    pub commands : All (λ x. isEnd (x .command) ≡ false) ys
     pub done : List Line
     pub split : xs ≡ done ++ ys
-    pub inputs : s .spent .inputs ≡ sumOf (S .l) (λ c. c .inputs) done
-    pub masks : s .spent .masks ≡ sumOf (S .l) (λ c. c .masks) done
-    pub triples : s .spent .triples ≡ sumOf (S .l) (λ c. c .triples) done
-    pub openings : s .spent .openings ≡ sumOf (S .l) (λ c. c .openings) done
-    pub revealed : s .spent .revealed ≡ sumOf (S .l) (λ c. c .revealed) done
+    pub counts : s .spent .counts ≡ sumOf (S .l) done
 
   known-start : Known xs (start d) (replicate 64 0) []
   unfolding start nothingSpent sumOf
@@ -63,21 +65,16 @@ module _ {S : Setting} {K : ℕ} {u : Supply} {input : List Row} {d : Deal} (G :
         shown = refl;
         balance = balanced-start d;
         ranges = ok;
-        commands = are;
         done = [];
         split = refl;
-        inputs = refl;
-        masks = refl;
-        triples = refl;
-        openings = refl;
-        revealed = refl;
+        counts = refl;
       }
 
   passed : (x : Line) (s : State) → check u (cost (S .l) (x .command)) (s .spent) ≡ 0 → Passed u (cost (S .l) (x .command)) (s .spent)
   passed x s e = check-passed u (cost (S .l) (x .command)) (s .spent) e
 
   known-more : {x : Line} {ys : List Line} {s : State} {vs ws : List ℕ} → Known (x ∷ ys) s vs ws → check u (cost (S .l) (x .command)) (s .spent) ≡ 0
-      → Known ys (finish S input (x .command) s) (plainly (S .p) (secrets S input) (s .spent .inputs) (x .command) vs) (ws ++ reveals (x .command) vs)
+      → Known ys (finish S input (x .command) s) (plainly (S .p) (secrets S input) (s .spent .counts .inputs) (x .command) vs) (ws ++ reveals (x .command) vs)
   unfolding finish pay
   known-more {x} {ys} {s} {vs} {ws} q e =
       let done = finished G s vs (q .holds) (x .command) (all-head (q .ranges)) (passed x s e) in
@@ -86,14 +83,9 @@ module _ {S : Setting} {K : ℕ} {u : Supply} {input : List Row} {d : Deal} (G :
         shown = done .shown ∙ ap (λ zs. zs ++ reveals (x .command) vs) (q .shown);
         balance = balanced-more (S .l) (x .command) (s .spent) (q .balance);
         ranges = all-tail (q .ranges);
-        commands = all-tail (q .commands);
         done = q .done ++ (x ∷ []);
         split = q .split ∙ rw append-assoc;
-        inputs = rw (sum-more (S .l) (λ c. c .inputs), q .inputs);
-        masks = rw (sum-more (S .l) (λ c. c .masks), q .masks);
-        triples = rw (sum-more (S .l) (λ c. c .triples), q .triples);
-        openings = rw (sum-more (S .l) (λ c. c .openings), q .openings);
-        revealed = rw (sum-more (S .l) (λ c. c .revealed), q .revealed);
+        counts = ap (λ (x′ : Counts). added x′ (cost (S .l) (x .command) .counts)) (q .counts) ∙ sym (sum-more (S .l) (q .done) x);
       }
 
   known : {ys : List Line} {s : State} {vs ws : List ℕ} → Passes S u input d xs ys s vs ws → Known ys s vs ws
@@ -104,7 +96,7 @@ module _ {S : Setting} {K : ℕ} {u : Supply} {input : List Row} {d : Deal} (G :
       → check u (cost (S .l) (y .command)) (s .spent) ≡ 0 → Does S K input (y .command) s (finish S input (y .command) s)
   next-does {y} {s = s} {vs} p e =
       let q = known p in
-      does G s vs (q .holds) (y .command) (all-head (q .ranges)) (all-head (q .commands)) (passed y s e)
+      does G s vs (q .holds) (y .command) (all-head (q .ranges)) (passed y s e)
 
   right : {ys : List Line} {s : State} {vs ws : List ℕ} → Passes S u input d xs ys s vs ws → Right S s vs ws
   right p =
@@ -128,11 +120,8 @@ module _ {S : Setting} {K : ℕ} {u : Supply} {input : List Row} {d : Deal} (G :
       record {
         done = q .done;
         split = q .split;
-        inputs = q .inputs;
-        masks = q .masks;
-        triples = q .triples;
-        openings = q .openings;
-        revealed = q .revealed;
+        counts = q .counts;
+        inputs = ap (λ (k : Counts). k .inputs) (q .counts) ∙ loads-are (S .l) (q .done);
         balance = q .balance;
         masks-left = q .holds .used .masks;
         triples-left = q .holds .used .triples;
@@ -149,7 +138,7 @@ module _ {S : Setting} {K : ℕ} {u : Supply} {input : List Row} {d : Deal} (G :
     where
       either : (k : ℕ) → k ≡ check u (cost (S .l) (y .command)) (s .spent)
           → (check u (cost (S .l) (y .command)) (s .spent) ≡ 0 → Stopped S u input d xs end (runLines S u input end ys (finish S input (y .command) s)))
-          → Stopped S u input d xs end (orElse k (y .place) s (runLines S u input end ys (finish S input (y .command) s)))
+          → Stopped S u input d xs end (Refusing.given k (runLines S u input end ys (finish S input (y .command) s)) (record { number = k; place = y .place; state = s }))
       either zero e go = go (sym e)
       either (suc k) e go = record { left = y ∷ ys; plain = _; revealed = _; passes = p; stops = at-line e (λ z. omega arith) refl }
 
@@ -159,10 +148,9 @@ exactness sheet log shown A =
     let Q = sound sheet (A .number) in
     let G = given sheet Q log shown in
     let ok = lines-ok _ _ _ (A .lines) (A .end) (A .script) in
-    let commands = lines-go-on _ _ _ (A .lines) (A .end) (A .script) in
     record {
-      does = λ y ys s vs ws p e. next-does G (A .lines) ok commands p e;
-      right = λ ys s vs ws p. right G (A .lines) ok commands p;
-      counted = λ ys s vs ws p. counted G (A .lines) ok commands p;
-      stops = rw (A .number, A .script) (stopped G (A .lines) ok commands (A .end) (A .lines) begins);
+      does = λ y ys s vs ws p e. next-does G (A .lines) ok p e;
+      right = λ ys s vs ws p. right G (A .lines) ok p;
+      counted = λ ys s vs ws p. counted G (A .lines) ok p;
+      stops = rw (A .number, A .script) (stopped G (A .lines) ok (A .end) (A .lines) begins);
     }

@@ -1,7 +1,8 @@
--- The facts of the four fields, by one test over the table, and what follows from `Modulus` for powers of two.
+-- The facts of the fields in use, by one test over the table, and what follows from `Modulus` for powers of two.
 -- Assumes nothing.
 use mathlib.Core.Path.{_≡_, refl, ap, _∙_}
-use mathlib.Core.Bool.{Bool, _&&_}
+use mathlib.Core.Bool.{Bool, true, false, _&&_, _||_}
+use mathlib.Core.List.{List, _∷_}
 use Prim.Native.Nat.{ℕ, zero, suc, _+_, _-_, _*_, _/_, _%_, _^_, _<_}
 use native.Mathlib.Nat.{mod-eq-of-lt, pow-suc}
 use native.Mathlib.Omega.{arith}
@@ -9,9 +10,32 @@ use lib.Dec.{T, ltb, leb, eqb, ltb→lt, leb→le, le→leb, eqb→eq}
 use Rattle.algebra.specs.Ring.{mul}
 use Rattle.algebra.proofs.Ring.{by-quotients, ring, mod-ring, reduced, both-reduced, given, mul-lt}
 use Rattle.algebra.proofs.Tests.{and-left, and-right, and-both, every, every-at}
-use Rattle.model.specs.Fields.{modulus, bits, largestK, inverse, powerOf2, inversePowerOf2, Modulus, Field, Parties, parties, PartiesTested, EveryField}
+use Rattle.model.specs.Fields.{modulus, bits, largestK, fieldsInUse, among, inUse, InUse, inverse, powerOf2, inversePowerOf2, Modulus, Field, Parties, parties, FieldsTested, PartiesTested, EveryField}
+use Rattle.model.specs.Sheet.{all}
 
--- the tests of one field, one for each fact
+-- what passes at every field in use, by computing
+pub at-each : (test : ℕ → Bool) (xs : List ℕ) → T (all test xs) → (f : ℕ) → T (among f xs) → T (test f)
+unfolding all
+at-each test (x ∷ xs) t f h = go (eqb f x) refl h (at-each test xs (and-right (test x) (all test xs) t) f)
+  where
+    go : (b : Bool) → eqb f x ≡ b → T (b || among f xs) → (T (among f xs) → T (test f)) → T (test f)
+    go true e h rest = rw (eqb→eq f x (rw e tt)) (and-left (test x) (all test xs) t)
+    go false e h rest = rest h
+
+pub in-use : (test : ℕ → Bool) → T (all test fieldsInUse) → (f : ℕ) → InUse f → T (test f)
+unfolding inUse
+in-use test t f h = at-each test fieldsInUse t f h
+
+-- the table has them
+pub listed : (f : ℕ) → InUse f → f < 4
+unfolding all
+listed f h = ltb→lt f 4 (in-use (λ g. ltb g 4) tt f h)
+
+pub fields-tested : FieldsTested
+unfolding inUse
+fields-tested f = (listed f, every-at 4 inUse tt f)
+
+-- the facts of one field, each as a test
 unit-test : ℕ → ℕ → Bool
 unit-test p e = eqb (mul p (suc e) (inverse p (suc e))) 1
 
@@ -24,7 +48,7 @@ field-test p l k = modulus-test p && (ltb p (2 ^ l) && (ltb (2 ^ (l - 1)) p && (
 table-test : ℕ → Bool
 table-test f = field-test (modulus f) (bits f) (largestK f)
 
-modulus-facts : (f p : ℕ) → f < 4 → p ≡ modulus f → T (modulus-test p) → Modulus p
+modulus-facts : (f p : ℕ) → InUse f → p ≡ modulus f → T (modulus-test p) → Modulus p
 unfolding modulus-test unit-test
 modulus-facts f p l e t =
     let odd = and-right (ltb 7 p) _ t in
@@ -32,7 +56,7 @@ modulus-facts f p l e t =
     let units = and-right (ltb p (2 ^ 31)) _ word in
     record {
       number = f;
-      listed = l;
+      in-use = l;
       is = e;
       above = ltb→lt 7 p (and-left (ltb 7 p) _ t);
       odd = eqb→eq (p % 2) 1 (and-left (eqb (p % 2) 1) _ odd);
@@ -44,7 +68,7 @@ modulus-facts f p l e t =
     unit t zero a b = absurd (omega arith)
     unit t (suc e) a b = eqb→eq (mul p (suc e) (inverse p (suc e))) 1 (every-at 7 (unit-test p) t e (omega arith))
 
-field-facts : (f p l k : ℕ) → f < 4 → p ≡ modulus f → T (field-test p l k) → Field p l k
+field-facts : (f p l k : ℕ) → InUse f → p ≡ modulus f → T (field-test p l k) → Field p l k
 unfolding field-test
 field-facts f p l k h e t =
     let hold = and-right (modulus-test p) _ t in
@@ -62,10 +86,10 @@ field-facts f p l k h e t =
       k-is = eqb→eq (suc k) l (and-right (ltb k 31) _ most);
     }
 
--- every field of the table
-pub fields : (f : ℕ) → f < 4 → Field (modulus f) (bits f) (largestK f)
-unfolding table-test field-test modulus-test unit-test modulus bits largestK inverse mul
-fields f h = field-facts f (modulus f) (bits f) (largestK f) h refl (every-at 4 table-test tt f h)
+-- every field in use
+pub fields : (f : ℕ) → InUse f → Field (modulus f) (bits f) (largestK f)
+unfolding all table-test field-test modulus-test unit-test modulus bits largestK inverse mul
+fields f h = field-facts f (modulus f) (bits f) (largestK f) h refl (in-use table-test tt f h)
 
 pub parties-facts : (n t : ℕ) → T (parties n t) → Parties n t
 unfolding parties

@@ -28,7 +28,8 @@ use Rattle.model.proofs.Determined.{d-done, MaskOk}
 use Rattle.model.proofs.Masked.{whole-field, remainder-determined}
 use Rattle.model.proofs.Checks.{Passed}
 use Rattle.model.proofs.Courses.{OthersStay, Course, course}
-use Rattle.model.proofs.Marks.{length-marked, unmarked, writes-target}
+use Rattle.model.proofs.Marks.{length-marked, unmarked}
+use Rattle.model.proofs.Outputs.{agrees}
 use Rattle.model.proofs.Balance.{openings-are}
 use Rattle.model.proofs.Running.{Ran, ran}
 
@@ -38,10 +39,10 @@ pub record Holds (S : Setting) (d : Deal) (s : State) (vs : List ℕ) : Type 0 w
   pub values-64 : length vs ≡ 64
   pub shareds : Shareds S vs (s .registers)
   pub unset : (r : ℕ) → getD (s .spent .marks) r false ≡ false → getD (s .registers) r noRow ≡ noRow
-  pub used : Used d (s .spent .masks) (s .spent .triples) (s .deal)
-  pub opens : length (s .opened) ≡ s .spent .openings
+  pub used : Used d (s .spent .counts .masks) (s .spent .counts .triples) (s .deal)
+  pub opens : length (s .opened) ≡ s .spent .counts .openings
   pub rows : All (Sharing (S .p) (S .n) (S .t)) (s .opened)
-  pub shows : length (s .shown) ≡ s .spent .revealed
+  pub shows : length (s .shown) ≡ s .spent .counts .revealed
 
 pub all-same : {A : Type 0} (n r : ℕ) (a : A) → getD (replicate n a) r a ≡ a
 all-same zero r a = refl
@@ -89,44 +90,44 @@ module _ {S : Setting} {K : ℕ} {u : Supply} {input : List Row} {d₀ : Deal} (
 
   -- what is left of the deal
   masks-left : {s : State} {vs : List ℕ} → Holds S d₀ s vs → All (MaskOk S (S .p)) (s .deal .masks)
-  masks-left {s} H = rw (H .used .masks) (all-drop (s .spent .masks) (G .formed .masks-ok))
+  masks-left {s} H = rw (H .used .masks) (all-drop (s .spent .counts .masks) (G .formed .masks-ok))
 
-  masks-count : {s : State} {vs : List ℕ} → Holds S d₀ s vs → length (s .deal .masks) ≡ u .masks - s .spent .masks
-  masks-count {s} H = ap length (H .used .masks) ∙ length-drop (s .spent .masks) (d₀ .masks) ∙ rw (G .formed .masks-many)
+  masks-count : {s : State} {vs : List ℕ} → Holds S d₀ s vs → length (s .deal .masks) ≡ u .masks - s .spent .counts .masks
+  masks-count {s} H = ap length (H .used .masks) ∙ length-drop (s .spent .counts .masks) (d₀ .masks) ∙ rw (G .formed .masks-many)
 
   triples-left : {s : State} {vs : List ℕ} → Holds S d₀ s vs → All (TripleOk S) (s .deal .triples)
-  triples-left {s} H = rw (H .used .triples) (all-drop (s .spent .triples) (G .formed .triples-ok))
+  triples-left {s} H = rw (H .used .triples) (all-drop (s .spent .counts .triples) (G .formed .triples-ok))
 
-  triples-count : {s : State} {vs : List ℕ} → Holds S d₀ s vs → length (s .deal .triples) ≡ u .triples - s .spent .triples
-  triples-count {s} H = ap length (H .used .triples) ∙ length-drop (s .spent .triples) (d₀ .triples) ∙ rw (G .formed .triples-many)
+  triples-count : {s : State} {vs : List ℕ} → Holds S d₀ s vs → length (s .deal .triples) ≡ u .triples - s .spent .counts .triples
+  triples-count {s} H = ap length (H .used .triples) ∙ length-drop (s .spent .counts .triples) (d₀ .triples) ∙ rw (G .formed .triples-many)
 
   module _ (s : State) (vs : List ℕ) (H : Holds S d₀ s vs) (c : Command) (ok : T (inRanges (S .p) K c)) (Q : Passed u (cost (S .l) c) (s .spent)) where
     abbrev values : List ℕ
-    values = plainly (S .p) (secrets S input) (s .spent .inputs) c vs
+    values = plainly (S .p) (secrets S input) (s .spent .counts .inputs) c vs
 
     abbrev Left : List Row → Type 0
     Left w = Shareds S values w × OthersStay (target c) (s .registers) w
 
-    C : Course S (S .p) (modTriples (S .l)) input (s .spent .inputs) c vs Left (Trees.remainder (S .p) (rowOps S))
-    C = course S (G .field .modulus-is) (G .parties) none-shared (shareds-secrets (G .inputs-ok)) (Trees.remainder (S .p) (rowOps S)) (remainder-determined S (G .field) (G .parties)) (s .spent .inputs) vs c ok
+    C : Course S (S .p) (modTriples (S .l)) input (s .spent .counts .inputs) c vs Left (Trees.remainder (S .p) (rowOps S))
+    C = course S (G .field .modulus-is) (G .parties) none-shared (shareds-secrets (G .inputs-ok)) (Trees.remainder (S .p) (rowOps S)) (remainder-determined S (G .field) (G .parties)) (s .spent .counts .inputs) vs c ok
 
     -- the command's tree, worked on the deal that is left
     abbrev tree-worked : Worked (List Row)
-    tree-worked = byRows S (rowCommand S input (s .spent .inputs) c (s .registers) done) (s .deal)
+    tree-worked = byRows S (rowCommand S input (s .spent .counts .inputs) c (s .registers) done) (s .deal)
 
-    command-ran : Ran S Left (C .numbers ++ []) (cost (S .l) c .triples + 0) (reveals c vs ++ []) (s .deal) tree-worked
+    command-ran : Ran S Left (C .numbers ++ []) (cost (S .l) c .counts .triples + 0) (reveals c vs ++ []) (s .deal) tree-worked
     command-ran =
         ran S (whole-field (G .field)) (G .parties) (C .determined (s .registers) (H .shareds) done (λ w W. d-done W))
         (masks-left H) (rw length-append (omega (arith, C .masks, Q .masks, masks-count H))) (triples-left H) (omega (arith, Q .triples, triples-count H))
 
     -- the same, with what the command costs
-    masks-are : length (C .numbers ++ []) ≡ cost (S .l) c .masks
+    masks-are : length (C .numbers ++ []) ≡ cost (S .l) c .counts .masks
     masks-are = rw length-append (omega (arith, C .masks))
 
-    values-are : length (reveals c vs ++ []) ≡ cost (S .l) c .revealed
+    values-are : length (reveals c vs ++ []) ≡ cost (S .l) c .counts .revealed
     values-are = rw length-append (omega (arith, C .values))
 
-    triples-are : cost (S .l) c .triples + 0 ≡ cost (S .l) c .triples
+    triples-are : cost (S .l) c .counts .triples + 0 ≡ cost (S .l) c .counts .triples
     triples-are = omega arith
 
     registers-64 : length (tree-worked .left) ≡ 64
@@ -138,7 +139,7 @@ module _ {S : Setting} {K : ℕ} {u : Supply} {input : List Row} {d₀ : Deal} (
       where
         go : Dec (r < 64) → getD (tree-worked .left) r noRow ≡ noRow
         go (yes l) =
-            let m = unmarked (s .spent .marks) (target c) r (rw (H .marks-64) l) (rw (writes-target (S .l) c) at e) in
+            let m = unmarked (s .spent .marks) (target c) r (rw (H .marks-64) l) (rw (agrees (S .l) c .writes) at e) in
             command-ran .left .1 .others r (m .0) ∙ H .unset r (m .1)
         go (no l) = List·getD-eq-default (tree-worked .left) noRow (omega (arith, registers-64))
 

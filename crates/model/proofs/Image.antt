@@ -17,7 +17,7 @@ use Rattle.model.specs.Secrecy.{Alike}
 use Rattle.model.specs.Secrecy as Secrecy
 use Rattle.model.proofs.Shared.{TripleOk}
 use Rattle.model.proofs.Determined.{Determined, d-done, d-multiply, d-mask, d-reveal, MaskOk, mask-number, shared-product}
-use Rattle.model.proofs.Pairs.{Paired, p-done, p-multiply, p-mask, p-reveal, paired-beaver}
+use Rattle.model.proofs.Pairs.{Paired, p-last, Ends, ends, p-multiply, p-mask, p-reveal, paired-beaver}
 use Rattle.model.proofs.Agreeing.{alike-refl, alike-append, alike-each, agree-keep}
 use Rattle.model.proofs.Partners.{Space, Linked, unlinked, linked}
 use Rattle.model.proofs.Keepings.{maskedWith, keptTriple, keptMask, TripleImage, MaskImage, same-row, triple-image, mask-image}
@@ -146,12 +146,12 @@ module _ (S : Setting) {B : ℕ} {Opens : ℕ → ℕ → ℕ → ℕ → Type 0
       }
 
   -- both trees from the start of a deal's masks and triples
-  along : {Q : A → Type 0} {Q′ : A′ → Type 0} {xs xs′ : List ℕ} {n n′ : ℕ} {vs : List ℕ} {T : Tree Row A} {T′ : Tree Row A′} → Paired (Agree set) R T T′
+  along : {Q : A → Type 0} {Q′ : A′ → Type 0} {xs xs′ : List ℕ} {n n′ : ℕ} {vs : List ℕ} {T : Tree Row A} {T′ : Tree Row A′} → Paired (Agree set) (Ends R) T T′
       → Determined S B Q xs n vs T → Determined S B Q′ xs′ n′ vs T′ → (ms : List (List Row)) (ts : List Triple) → All (MaskOk S B) ms
       → All (TripleOk S) ts → n ≤ length ts → Linked S B Opens xs xs′ ms
       → Image S B Opens set R xs xs′ T T′ (dealt ms ts) (mapped S set T T′ (dealt ms ts))
   unfolding hiddenValues placed
-  along (p-done q) (d-done x) (d-done x′) ms ts wm wt le links = image-done ms ts q wm wt
+  along (p-last (ends q)) (d-done x) (d-done x′) ms ts wm wt le links = image-done ms ts q wm wt
   along (p-multiply ex ey pk) (d-multiply X Y k) (d-multiply X′ Y′ k′) ms ts wm none le links = absurd (omega arith)
   along (p-multiply {x} {y} {x′} {y′} ex ey pk) (d-multiply X Y k) (d-multiply X′ Y′ k′) ms ts wm (one {x = t} {xs = us} ok wt) le links =
       let M = N .bounds .modulus-is in
@@ -175,7 +175,7 @@ module _ (S : Setting) {B : ℕ} {Opens : ℕ → ℕ → ℕ → ℕ → Type 0
 
   -- Of the first tree's triples there are enough, and each mask that it uses has a partner.
   pub image : {Q : A → Type 0} {Q′ : A′ → Type 0} {xs xs′ : List ℕ} {n n′ : ℕ} {vs vs′ : List ℕ} {T : Tree Row A} {T′ : Tree Row A′}
-      → Paired (Agree set) R T T′ → Determined S B Q xs n vs T → Determined S B Q′ xs′ n′ vs′ T′ → vs ≡ vs′
+      → Paired (Agree set) (Ends R) T T′ → Determined S B Q xs n vs T → Determined S B Q′ xs′ n′ vs′ T′ → vs ≡ vs′
       → (d : Deal) → All (MaskOk S B) (d .masks) → All (TripleOk S) (d .triples) → n ≤ length (d .triples) → Linked S B Opens xs xs′ (d .masks)
       → Image S B Opens set R xs xs′ T T′ d (mapped S set T T′ d)
   image pairs D D′ e d wm wt le links = along pairs D (rw (sym e) at D′) (d .masks) (d .triples) wm wt le links

@@ -17,15 +17,19 @@ pub mod Exact
 pub mod Dividing
 pub mod Each
 pub mod Shared
+pub mod Pairs
+pub mod Reaching
 pub mod StepLaws
 pub mod Taking
 pub mod Determined
 pub mod Operands
 pub mod Masked
+pub mod Counts
 pub mod Checks
 pub mod ReadsOnly
 pub mod Courses
 pub mod Marks
+pub mod Outputs
 pub mod Balance
 pub mod Running
 pub mod Held
@@ -34,6 +38,7 @@ pub mod Lengths
 pub mod SheetRows
 pub mod SheetDeal
 pub mod Making
+pub mod Readings
 pub mod WholeScript
 pub mod Acceptance
 pub mod Written
@@ -41,7 +46,6 @@ pub mod Formulas
 pub mod Performed
 pub mod Exactness
 pub mod Refusals
-pub mod Pairs
 pub mod Agreeing
 pub mod Partners
 pub mod Keepings

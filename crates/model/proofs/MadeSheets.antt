@@ -1,26 +1,27 @@
 -- The run of a sheet that is made of header, script, input and a well-formed deal: it is the run of the script's lines on them.
 -- Assumes nothing.
 use mathlib.Core.Path.{_≡_, sym, subst, _∙_}
-use mathlib.Core.Bool.{Bool, _&&_}
+use mathlib.Core.Bool.{Bool}
 use mathlib.Core.List.{List, _++_, List·Memᴰ as In, List·Memᴰ·head as here, List·Memᴰ·tail as there}
 use Prim.Native.Nat.{ℕ, suc, _<_}
 use native.Mathlib.Omega.{arith}
-use lib.Dec.{T, ltb, leb, eqb, lt→ltb, leb→le, le→leb, eqb-refl}
+use lib.Dec.{T, eqb-refl}
 use lib.ListN.{length, take}
 use Rattle.algebra.specs.Lists.{All, none, one, allBelow}
 use Rattle.algebra.proofs.Lists.{all-below}
 use Rattle.algebra.proofs.Rows.{length-tab, getD-tab, take-row, row-at, row-again}
-use Rattle.algebra.proofs.Tests.{and-left, and-right, and-both}
-use Rattle.model.specs.Fields.{Modulus, Parties, modulus, largestK, parties}
+use Rattle.algebra.proofs.Tests.{and-both}
+use Rattle.model.specs.Fields.{Modulus, Parties}
 use Rattle.model.specs.Sharing.{share, Sharing}
 use Rattle.model.specs.Steps.{Row, Deal}
 use Rattle.model.specs.Script.{Line, accepted, scriptOf}
-use Rattle.model.specs.Sheet.{Header, settingOf, limits, impliedLength, all, dealRows, goodMask, goodTriple, sharesBelow, aSharing, sheetNumber, sheetOf}
+use Rattle.model.specs.Sheet.{Header, largestIn, settingOf, impliedLength, all, dealRows, goodMask, goodTriple, sharesBelow, aSharing, headerTests, limitTests, lengthTests, rowTests, sheetTests, sheetNumber, Permitted, sheetOf}
 use Rattle.model.specs.Making.{SheetRow, Parts, Says}
 use Rattle.model.specs.Run.{start, runLines, outcome, supplyOf, runScript, sheetScript, stopOf, run}
 use Rattle.model.specs.Secrecy.{WellFormed}
-use Rattle.model.proofs.Fields.{fields, parties-test}
-use Rattle.model.proofs.Entries.{pass}
+use Rattle.model.proofs.Fields.{listed, fields}
+use Rattle.model.proofs.Lengths.{HeaderRead, header-passes, fitting}
+use Rattle.model.proofs.Trying.{all-pass, both-pass}
 use Rattle.model.proofs.Polynomials.{positive, eval-lt}
 use Rattle.model.proofs.Sharings.{test-exact}
 use Rattle.model.proofs.Making.{making}
@@ -29,12 +30,10 @@ use Rattle.model.proofs.Acceptance.{all-map}
 
 -- what an accepted sheet says of its header, script and input
 pub record Facts (h : Header) (script : List ℕ) (input : List Row) (xs : List Line) (end : ℕ) : Type 0 where
-  pub field : h .field < 4
-  pub people : Parties (h .n) (h .t)
-  pub counts : T (limits h)
-  pub script-is : scriptOf (modulus (h .field)) (largestK (h .field)) script ≡ accepted xs end
+  pub permitted : Permitted h
+  pub script-is : scriptOf (settingOf h .p) (largestIn h) script ≡ accepted xs end
   pub script-length : length script ≡ h .script
-  pub sharings : All (Sharing (modulus (h .field)) (h .n) (h .t)) input
+  pub sharings : All (Sharing (settingOf h .p) (h .n) (h .t)) input
   pub inputs : length input ≡ h .inputs
 
 pub each-all : {A : Type 0} (f : A → Bool) {xs : List A} → All (λ x. T (f x)) xs → T (all f xs)
@@ -63,25 +62,22 @@ module _ {p n t : ℕ} (M : Modulus p) (P : Parties n t) where
       (rw (s .is, take-row n _) (record { at = λ i k. let l : i < n = rw length-tab at k in rw (getD-tab n _ i l) (eval-lt (positive M) (s .poly) (suc i)) }))
 
 module _ {h : Header} {script : List ℕ} {input : List Row} {xs : List Line} {end : ℕ} (F : Facts h script input xs end) {d : Deal} (W : WellFormed h d) where
-  M : Modulus (modulus (h .field))
-  M = fields (h .field) (F .field) .modulus-is
+  P : Parties (h .n) (h .t)
+  P = F .permitted .people
 
-  rows-are : All (Sharing (modulus (h .field)) (h .n) (h .t)) (input ++ dealRows d)
+  M : Modulus (settingOf h .p)
+  M = fields (h .field) (F .permitted .field) .modulus-is
+
+  rows-are : All (Sharing (settingOf h .p) (h .n) (h .t)) (input ++ dealRows d)
   rows-are = all-append (F .sharings) (W .sharings)
 
   parts : Parts h script input d
-  unfolding limits
   parts =
-      let c3 = and-left (leb (h .inputs) 64 && leb (h .masks) 16 && leb (h .triples) 512) (leb (h .script) 1024) (F .counts) in
-      let c2 = and-left (leb (h .inputs) 64 && leb (h .masks) 16) (leb (h .triples) 512) c3 in
-      let i = leb→le (h .inputs) 64 (and-left (leb (h .inputs) 64) (leb (h .masks) 16) c2) in
-      let m = leb→le (h .masks) 16 (and-right (leb (h .inputs) 64) (leb (h .masks) 16) c2) in
-      let x = leb→le (h .triples) 512 (and-right (leb (h .inputs) 64 && leb (h .masks) 16) (leb (h .triples) 512) c3) in
-      let c = leb→le (h .script) 1024 (and-right (leb (h .inputs) 64 && leb (h .masks) 16 && leb (h .triples) 512) (leb (h .script) 1024) (F .counts)) in
+      let L = fitting h (F .permitted) in
       record {
-        field-fits = omega (arith, F .field);
-        n-fits = omega (arith, F .people);
-        t-fits = omega (arith, F .people);
+        field-fits = omega (arith, listed (h .field) (F .permitted .field));
+        n-fits = omega (arith, P);
+        t-fits = omega (arith, P);
         inputs-fit = omega arith;
         masks-fit = omega arith;
         triples-fit = omega arith;
@@ -91,29 +87,32 @@ module _ {h : Header} {script : List ℕ} {input : List Row} {xs : List Line} {e
         masks-length = W .masks;
         triples-length = W .triples;
         mask-lengths = all-in (W .bits-each);
-        rows = λ x m. sheet-row M (F .people) (all-in rows-are x m);
+        rows = λ x m. sheet-row M P (all-in rows-are x m);
       }
 
   pub says : Says (sheetOf h script input d) h script input d
   says = making .reading-undoes h script input d parts
 
   pub not-refused : sheetNumber (sheetOf h script input d) ≡ 0
-  unfolding sheetNumber
+  unfolding sheetTests limitTests lengthTests rowTests
   not-refused =
       let S = settingOf h in
-      let rows = input ++ dealRows d in
-      rw (says .header-is, says .input-is, says .deal-is, says .length-is)
-      (pass (leb 11 (impliedLength h)) 1 _ long
-      ∙ pass (ltb (h .field) 4) 2 _ (lt→ltb (h .field) 4 (F .field))
-      ∙ pass (parties (h .n) (h .t)) 3 _ (parties-test (F .people))
-      ∙ pass (limits h && eqb (impliedLength h) (impliedLength h)) 4 _ (and-both (limits h) _ (F .counts) (eqb-refl (impliedLength h)))
-      ∙ pass (all (sharesBelow S) rows) 5 _ (each-all (sharesBelow S) (all-map (low-shares M (F .people)) rows-are))
-      ∙ pass (all (aSharing S) rows) 6 _ (each-all (aSharing S) (all-map (λ x s. test-exact M (F .people) x .1 s) rows-are))
-      ∙ pass (all (goodMask S) (d .masks)) 7 _ (each-all (goodMask S) (W .good-masks))
-      ∙ pass (all (goodTriple S) (d .triples)) 8 0 (each-all (goodTriple S) (W .good-triples)))
+      both-pass (headerTests (sheetOf h script input d)) _ (header-passes (sheetOf h script input d) header-good)
+      (rw (says .header-is, says .input-is, says .deal-is, says .length-is)
+      (all-pass
+      (one (F .permitted .counts)
+      (one (eqb-refl (impliedLength h))
+      (one (each-all (sharesBelow S) (all-map (low-shares M P) rows-are))
+      (one (each-all (aSharing S) (all-map (λ x s. test-exact M P x .1 s) rows-are))
+      (one (each-all (goodMask S) (W .good-masks)) (one (each-all (goodTriple S) (W .good-triples)) none))))))))
     where
-      long : T (leb 11 (impliedLength h))
-      long = le→leb 11 (impliedLength h) (unfold impliedLength in omega arith)
+      header-good : HeaderRead (sheetOf h script input d)
+      header-good =
+          record {
+            long = rw (says .header-is, says .length-is) (unfold impliedLength in omega arith);
+            field = rw (says .header-is) (F .permitted .field);
+            people = rw (says .header-is) P;
+          }
 
   pub script-read : sheetScript (sheetOf h script input d) ≡ accepted xs end
   script-read = rw (says .header-is, says .script-is) (F .script-is)

@@ -8,7 +8,7 @@ use lib.ListN.{length, drop, length-append, length-drop, take-append-drop, drop-
 use lib.Seq.{length-take-le, take-at, drop-drop, drop-cons}
 use Rattle.algebra.specs.Lists.{Below}
 use Rattle.model.specs.Steps.{Row, Deal}
-use Rattle.model.specs.Sheet.{Header, headerOf, inputsAt, impliedLength, scriptIn, inputIn, dealIn, dealRows, bytesOf, rowBytes, headerBytes, sheetOf}
+use Rattle.model.specs.Sheet.{Header, headerOf, headerSize, inputsAt, impliedLength, scriptIn, inputIn, dealIn, dealRows, bytesOf, rowBytes, headerBytes, sheetOf}
 use Rattle.model.specs.Making.{Parts, Says, Making}
 use Rattle.model.proofs.LittleEndian.{past, number-read, byte, number-fits, number-written}
 use Rattle.model.proofs.SheetRows.{length-rows, rows-append, rows-read, rows-written, rows-fit}
@@ -25,12 +25,12 @@ module _ (h : Header) (script : List ℕ) (input : List Row) (d : Deal) (P : Par
   shape : Shape h input d
   shape = record { inputs = P .inputs-length; masks = P .masks-length; triples = P .triples-length; each = P .mask-lengths }
 
-  script-at : drop 11 (sheetOf h script input d) ≡ script ++ rowBytes (h .n) (input ++ dealRows d)
-  unfolding headerBytes bytesOf
+  script-at : drop (headerSize h) (sheetOf h script input d) ≡ script ++ rowBytes (h .n) (input ++ dealRows d)
+  unfolding headerSize headerBytes bytesOf
   script-at = rw together
 
   length-is : length (sheetOf h script input d) ≡ impliedLength h
-  unfolding headerBytes bytesOf
+  unfolding headerSize headerBytes bytesOf
   length-is =
       rw (together, implied, length-append, length-append, length-rows (h .n) (input ++ dealRows d) (P .rows), length-all shape, P .script-length)
       (omega arith)
@@ -52,12 +52,12 @@ module _ (h : Header) (script : List ℕ) (input : List Row) (d : Deal) (P : Par
   parts-are : (inputIn h (sheetOf h script input d) ≡ input) × (dealIn h (sheetOf h script input d) ≡ d)
   parts-are =
       let s = sheetOf h script input d in
-      let at = past s 11 (h .script) script _ script-at (P .script-length) in
+      let at = past s (headerSize h) (h .script) script _ script-at (P .script-length) in
       let read = rows-read s (h .n) (inputsAt h) (input ++ dealRows d) [] (P .rows) (at ∙ sym (append-nil _)) in
       same (shape-in h s) shape (all-rows h s ∙ (rw (length-all shape) at read))
 
-header-written : (s : List ℕ) → Below 256 s → 11 ≤ length s → s ≡ headerBytes (headerOf s) ++ drop 11 s
-unfolding headerBytes headerOf
+header-written : (s : List ℕ) → Below 256 s → headerSize (headerOf s) ≤ length s → s ≡ headerBytes (headerOf s) ++ drop (headerSize (headerOf s)) s
+unfolding headerSize headerBytes headerOf
 header-written s b l =
     simp append-assoc
     (rw (
@@ -84,7 +84,7 @@ module _ (s : List ℕ) (b : Below 256 s) (e : length s ≡ impliedLength (heade
         masks-fit = number-fits s b 2 5;
         triples-fit = number-fits s b 2 7;
         script-fits = number-fits s b 2 9;
-        script-length = length-take-le _ (drop 11 s) (rw length-drop (omega (arith, implied (headerOf s))));
+        script-length = length-take-le _ (drop (headerSize (headerOf s)) s) (rw length-drop (omega (arith, implied (headerOf s))));
         inputs-length = S .inputs;
         masks-length = S .masks;
         triples-length = S .triples;

@@ -1,4 +1,4 @@
--- The marks after the registers of a list were set; and that a command's cost writes its target.
+-- The marks after the registers of a list were set.
 -- Assumes nothing.
 use mathlib.Core.Path.{_≡_, refl, sym, _∙_}
 use mathlib.Core.Bool.{Bool, true, false}
@@ -8,10 +8,7 @@ use native.Mathlib.Decide.{ℕ-discrete}
 use lib.ListN.{length, getD, set, length-set}
 use lib.Seq.{getD-set-same, getD-set-other}
 use Rattle.algebra.proofs.Tests.{true-false}
-use Rattle.model.specs.Script.{Command, END, LOAD, CONST, ADD, SUB, SCALE, MUL, MOD, TRUNC, LTZ, OVER, BLOCKS, REVEAL, BITLT}
-use Rattle.model.specs.Costs.{costBy, cost}
 use Rattle.model.specs.Checks.{marked}
-use Rattle.model.specs.Results.{target}
 
 -- of the others, and of these
 pub marked-kept : (marks : List Bool) (ds : List ℕ) (r : ℕ) → (In r ds → ⊥) → getD (marked marks ds) r false ≡ getD marks r false
@@ -47,21 +44,3 @@ unmarked marks ds r h e = (λ i. true-false (sym (marked-set marks ds r i h) ∙
     go : (b : Bool) → getD marks r false ≡ b → getD marks r false ≡ false
     go false q = q
     go true q = absurd (true-false (sym (marked-true marks ds r h q) ∙ e))
-
--- the registers that a command's cost says it writes are its target
-pub writes-target : (l : ℕ) (c : Command) → cost l c .writes ≡ target c
-unfolding costBy target
-writes-target l END = refl
-writes-target l (LOAD d) = refl
-writes-target l (CONST d v) = refl
-writes-target l (ADD d a b) = refl
-writes-target l (SUB d a b) = refl
-writes-target l (SCALE d a v) = refl
-writes-target l (MUL d a b) = refl
-writes-target l (MOD d a k m) = refl
-writes-target l (TRUNC d a k m) = refl
-writes-target l (LTZ d a k) = refl
-writes-target l (OVER d a k v) = refl
-writes-target l (BLOCKS d a k m) = refl
-writes-target l (REVEAL a) = refl
-writes-target l (BITLT d b w v) = refl

@@ -1,44 +1,55 @@
 -- What the tests of a command's operands say.
 -- Assumes nothing.
-use mathlib.Core.Bool.{Bool, _&&_}
-use Prim.Native.Nat.{ℕ, _-_, _≤_, _<_}
-use native.Mathlib.Omega.{arith}
-use lib.Dec.{T, ltb, leb, ltb→lt, leb→le}
-use Rattle.algebra.proofs.Tests.{and-left, and-right}
-use Rattle.model.specs.Script.{register, kIn, mIn}
+use mathlib.Core.Path.{_≡_, sym}
+use mathlib.Core.Bool.{true, false}
+use mathlib.Core.List.{List, [], _∷_}
+use Prim.Native.Nat.{ℕ, _≤_, _<_}
+use lib.Dec.{T, ltb→lt, leb→le, lt→ltb, le→leb}
+use Rattle.algebra.proofs.Tests.{and-left, and-right, and-both, is-true, is-false}
+use Rattle.model.specs.Script.{Command, Test, atMost, below, passes, allPass, ranges, inRanges}
 
--- the operands k and m in their ranges
+-- of one test, and of each of a list
+abbrev pub Says : Test → Type 0
+Says (atMost a b) = a ≤ b
+Says (below a b) = a < b
+
+abbrev pub AllSay : List Test → Type 0
+AllSay [] = Unit {0}
+AllSay (t ∷ ts) = Says t × AllSay ts
+
+said : (t : Test) → T (passes t) → Says t
+said (atMost a b) h = leb→le a b h
+said (below a b) h = ltb→lt a b h
+
+pass : (t : Test) → Says t → T (passes t)
+pass (atMost a b) h = le→leb a b h
+pass (below a b) h = lt→ltb a b h
+
+all-said : (ts : List Test) → T (allPass ts) → AllSay ts
+unfolding allPass
+all-said [] h = tt
+all-said (t ∷ []) h = (said t h, tt)
+all-said (t ∷ u ∷ ts) h = (said t (and-left (passes t) _ h), all-said (u ∷ ts) (and-right (passes t) _ h))
+
+all-pass : (ts : List Test) → AllSay ts → T (allPass ts)
+unfolding allPass
+all-pass [] h = tt
+all-pass (t ∷ []) h = pass t (h .0)
+all-pass (t ∷ u ∷ ts) h = and-both (passes t) _ (pass t (h .0)) (all-pass (u ∷ ts) (h .1))
+
+-- so tests that are tried one by one give what they say
+pub all-hold : (ts : List Test) → AllSay ts → true ≡ allPass ts
+all-hold ts h = sym (is-true _ (all-pass ts h))
+
+pub one-fails : (ts : List Test) → (AllSay ts → ⊥) → false ≡ allPass ts
+one-fails ts h = sym (is-false _ (λ t. h (all-said ts t)))
+
+-- of a command whose operands are in range
+pub operands : (p K : ℕ) (c : Command) → T (inRanges p K c) → AllSay (ranges p K c)
+operands p K c h = all-said (ranges p K c) h
+
+-- the operands k and m in their ranges: of MOD, TRUNC and BLOCKS, and of LTZ and OVER with m = k − 1
 pub record Ranges (K k m : ℕ) : Type 0 where
   pub k-most : k ≤ K
   pub m-least : 1 ≤ m
   pub m-most : m < k
-
--- k in its range; k and m of MOD, TRUNC and BLOCKS; k and k − 1 of LTZ and OVER
-k-range : (K k : ℕ) → T (kIn K k) → (2 ≤ k) × (k ≤ K)
-k-range K k t = (leb→le 2 k (and-left (leb 2 k) (leb k K) t), leb→le k K (and-right (leb 2 k) (leb k K) t))
-
-pub ranges : (K d a k m : ℕ) → T (register d && register a && kIn K k && mIn k m) → Ranges K k m
-ranges K d a k m ok =
-    let t = and-right (register d && register a) (kIn K k) (and-left (register d && register a && kIn K k) (mIn k m) ok) in
-    let b = and-right (register d && register a && kIn K k) (mIn k m) ok in
-    record {
-      k-most = k-range K k t .1;
-      m-least = leb→le 1 m (and-left (leb 1 m) (ltb m k) b);
-      m-most = ltb→lt m k (and-right (leb 1 m) (ltb m k) b);
-    }
-
-pub sign-ranges : (K d a k : ℕ) → T (register d && register a && kIn K k) → Ranges K k (k - 1)
-sign-ranges K d a k ok =
-    let t = and-right (register d && register a) (kIn K k) ok in
-    let r = k-range K k t in
-    record { k-most = r .1; m-least = omega arith; m-most = omega arith }
-
--- register d, then more tests
-pub low : (d : ℕ) (x : Bool) → T (register d && x) → d < 64
-low d x t = ltb→lt d 64 (and-left (register d) x t)
-
-pub low₂ : (d : ℕ) (x y : Bool) → T (register d && x && y) → d < 64
-low₂ d x y t = low d x (and-left (register d && x) y t)
-
-pub low₃ : (d : ℕ) (x y z : Bool) → T (register d && x && y && z) → d < 64
-low₃ d x y z t = low₂ d x y (and-left (register d && x && y) z t)

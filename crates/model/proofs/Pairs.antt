@@ -3,42 +3,55 @@
 -- Assumes nothing.
 use mathlib.Core.Path.{_≡_, refl}
 use mathlib.Core.Bool.{Bool, true, false, cond}
-use mathlib.Core.List.{List, [], _∷_}
+use mathlib.Core.List.{List, [], _∷_, List·Memᴰ as In, List·Memᴰ·head as here, List·Memᴰ·tail as there}
 use Prim.Native.Nat.{ℕ, zero, suc, _-_, _/_}
+use lib.ListN.{getD, set}
 use Rattle.algebra.specs.Ring.{mul}
-use Rattle.model.specs.Script.{Command, END, LOAD, CONST, ADD, SUB, SCALE, MUL, MOD, TRUNC, LTZ, OVER, BLOCKS, REVEAL, BITLT, Line}
+use Rattle.algebra.specs.Lists.{from}
+use Rattle.model.specs.Script.{Command, LOAD, CONST, ADD, SUB, SCALE, MUL, MOD, TRUNC, LTZ, OVER, BLOCKS, REVEAL, BITLT, Line, outputs}
 use Rattle.model.specs.Trees.{Ops, Tree, done, multiply, mask, reveal, Comparison, Remainder, RemainderBy, odd, beaver, chosen, spelled, unmasked, comparisonFrom, comparison, remainder, floor, sign, over, blocks}
 use Rattle.model.specs.Costs.{costBy}
 use Rattle.model.specs.Checks.{Spent, Supply, check, pay}
-use Rattle.model.specs.Commands.{Ended, orStop, overLines, registersFrom, command, lines}
+use Rattle.model.specs.Refusing.{given}
+use Rattle.model.specs.Commands.{Ended, throughLines, registersFrom, command, lines}
+use Rattle.model.specs.Results.{target}
 use Rattle.model.proofs.Each.{Each, no-more, and, each-take, each-at, each-set}
 
--- The two trees do the same with paired operands, go on in pairs from whatever they are given in pairs, and end with results that R relates.
-pub data Paired {X Y A B : Type 0} (E : X → Y → Type 0) (R : A → B → Type 0) : Tree X A → Tree Y B → Type 0 where
-  p-done : {a : A} {b : B} → R a b → Paired E R (done a) (done b)
+-- The two trees do the same with paired operands, and go on in pairs from whatever they are given in pairs, up to trees that R relates.
+pub data Paired {X Y A B : Type 0} (E : X → Y → Type 0) (R : Tree X A → Tree Y B → Type 0) : Tree X A → Tree Y B → Type 0 where
+  p-last : {T : Tree X A} {T′ : Tree Y B} → R T T′ → Paired E R T T′
   p-multiply : {x y : X} {x′ y′ : Y} {go : X → Tree X A} {go′ : Y → Tree Y B} → E x x′ → E y y′
       → ((z : X) (z′ : Y) → E z z′ → Paired E R (go z) (go′ z′)) → Paired E R (multiply x y go) (multiply x′ y′ go′)
   p-mask : {x : X} {x′ : Y} {go : ℕ → List X → Tree X A} {go′ : ℕ → List Y → Tree Y B} → E x x′
       → ((C : ℕ) (b : List X) (b′ : List Y) → Each E b b′ → Paired E R (go C b) (go′ C b′)) → Paired E R (mask x go) (mask x′ go′)
   p-reveal : {x : X} {x′ : Y} {T : Tree X A} {T′ : Tree Y B} → E x x′ → Paired E R T T′ → Paired E R (reveal x T) (reveal x′ T′)
 
-paired-stop : {X Y A B : Type 0} {E : X → Y → Type 0} {R : A → B → Type 0} (n : ℕ) {T U : Tree X A} {T′ U′ : Tree Y B} → Paired E R T T′
-    → Paired E R U U′ → Paired E R (orStop n T U) (orStop n T′ U′)
-paired-stop zero stop go = go
-paired-stop (suc n) stop go = stop
+-- two ends, with results that R relates
+pub data Ends {X Y A B : Type 0} (R : A → B → Type 0) : Tree X A → Tree Y B → Type 0 where
+  ends : {a : A} {b : B} → R a b → Ends R (done a) (done b)
+
+paired-stop : {X Y A B : Type 0} {E : X → Y → Type 0} {R : Tree X A → Tree Y B → Type 0} (n : ℕ) {T U : Tree X A} {T′ U′ : Tree Y B} → Paired E R T T′
+    → Paired E R U U′ → Paired E R (given n T U) (given n T′ U′)
+paired-stop zero go stop = go
+paired-stop (suc n) go stop = stop
 
 -- two ways to go on are in pairs, from whatever F relates
-abbrev pub PairedAfter : {X Y A B C D : Type 0} → (X → Y → Type 0) → (A → B → Type 0) → (C → D → Type 0) → (C → Tree X A) → (D → Tree Y B) → Type 0
+abbrev pub PairedAfter : {X Y A B C D : Type 0} → (X → Y → Type 0) → (Tree X A → Tree Y B → Type 0) → (C → D → Type 0) → (C → Tree X A) → (D → Tree Y B) → Type 0
 PairedAfter {C = C} {D = D} E R F go go′ = (z : C) (z′ : D) → F z z′ → Paired E R (go z) (go′ z′)
 
 -- two BITLTs, and two MODs, in pairs
-pub record PairedComparison {X Y A B : Type 0} (E : X → Y → Type 0) (R : A → B → Type 0) (lt : Comparison X A) (lt′ : Comparison Y B) : Type 0 where
+pub record PairedComparison {X Y A B : Type 0} (E : X → Y → Type 0) (R : Tree X A → Tree Y B → Type 0) (lt : Comparison X A) (lt′ : Comparison Y B) : Type 0 where
   pub pair : (v : ℕ) {xs : List X} {xs′ : List Y} {go : X → Tree X A} {go′ : Y → Tree Y B} → Each E xs xs′ → PairedAfter E R E go go′
       → Paired E R (lt v xs go) (lt′ v xs′ go′)
 
-pub record PairedMod {X Y A B : Type 0} (E : X → Y → Type 0) (R : A → B → Type 0) (f : Remainder X A) (f′ : Remainder Y B) : Type 0 where
+pub record PairedMod {X Y A B : Type 0} (E : X → Y → Type 0) (R : Tree X A → Tree Y B → Type 0) (f : Remainder X A) (f′ : Remainder Y B) : Type 0 where
   pub pair : (k m : ℕ) {a : X} {a′ : Y} {go : X → Tree X A} {go′ : Y → Tree Y B} → E a a′ → PairedAfter E R E go go′
       → Paired E R (f k m a go) (f′ k m a′ go′)
+
+-- the registers w and w′, where g and g′ were: a pair is put into the register of the list, if it has one
+pub data Wrote {X Y : Type 0} (E : X → Y → Type 0) (g : List X) (g′ : List Y) : List ℕ → List X → List Y → Type 0 where
+  kept : Wrote E g g′ [] g g′
+  put : {d : ℕ} {z : X} {z′ : Y} → E z z′ → Wrote E g g′ (d ∷ []) (set g d z) (set g′ d z′)
 
 -- two ends of a run
 pub record PairedEnds {X Y : Type 0} (E : X → Y → Type 0) (e : Ended X) (e′ : Ended Y) : Type 0 where
@@ -75,7 +88,7 @@ module _ (p : ℕ) {X Y : Type 0} {E : X → Y → Type 0} {O : Ops X} {O′ : O
       → E (unmasked p O m C r f u) (unmasked p O′ m C r′ f′ u′)
   paired-unmasked m C er ef eu = K .plus (K .minus (K .plus (K .constant _) (K .times _ ef)) (paired-spelled (each-take m er))) (K .times _ eu)
 
-  module _ {A B : Type 0} {R : A → B → Type 0} where
+  module _ {A B : Type 0} {R : Tree X A → Tree Y B → Type 0} where
     paired-from : (v : ℕ) {xs : List X} {xs′ : List Y} {y : X} {y′ : Y} {go : X → Tree X A} {go′ : Y → Tree Y B} → Each E xs xs′ → E y y′
         → PairedAfter E R E go go′ → Paired E R (comparisonFrom O v xs y go) (comparisonFrom O′ v xs′ y′ go′)
     unfolding comparisonFrom
@@ -124,39 +137,49 @@ module _ (p : ℕ) {X Y : Type 0} {E : X → Y → Type 0} {O : Ops X} {O′ : O
       unfolding blocks
       paired-blocks = record { pair = λ k m ea h. paired-floor .pair k m ea h }
 
-  -- commands and lines, from registers in pairs; unset registers are a pair too
   module _ {unset : X} {unset′ : Y} (e0 : E unset unset′) where
-    from-registers : {g : List X} {g′ : List Y} → Each E g g′ → (b w : ℕ) → Each E (registersFrom unset g b w) (registersFrom unset′ g′ b w)
-    unfolding registersFrom
-    from-registers gs b zero = no-more
-    from-registers gs b (suc w) = and (each-at gs e0 b) (from-registers gs (suc b) w)
+    -- registers of a list, of which each is in pairs
+    abbrev Reads : List ℕ → List X → List Y → Type 0
+    Reads rs g g′ = (r : ℕ) → In r rs → E (getD g r unset) (getD g′ r unset′)
 
-    pub paired-command : {A B : Type 0} {R : A → B → Type 0} (f : RemainderBy X A) (f′ : RemainderBy Y B) → PairedMod E R (f (comparison O)) (f′ (comparison O′))
-        → {input : List X} {input′ : List Y} → Each E input input′ → (j : ℕ) (c : Command) {g : List X} {g′ : List Y}
-        {go : List X → Tree X A} {go′ : List Y → Tree Y B} → Each E g g′ → PairedAfter E R (Each E) go go′
-        → Paired E R (command p O unset f input j c g go) (command p O′ unset′ f′ input′ j c g′ go′)
-    unfolding command
-    paired-command f f′ H is j END gs h = h _ _ gs
-    paired-command f f′ H is j (LOAD d) gs h = h _ _ (each-set d gs (each-at is e0 j))
-    paired-command f f′ H is j (CONST d v) gs h = h _ _ (each-set d gs (K .constant v))
-    paired-command f f′ H is j (ADD d a b) gs h = h _ _ (each-set d gs (K .plus (each-at gs e0 a) (each-at gs e0 b)))
-    paired-command f f′ H is j (SUB d a b) gs h = h _ _ (each-set d gs (K .minus (each-at gs e0 a) (each-at gs e0 b)))
-    paired-command f f′ H is j (SCALE d a v) gs h = h _ _ (each-set d gs (K .times v (each-at gs e0 a)))
-    paired-command f f′ H is j (MUL d a b) gs h = p-multiply (each-at gs e0 a) (each-at gs e0 b) λ z z′ e. h _ _ (each-set d gs e)
-    paired-command f f′ H is j (MOD d a k m) gs h = H .pair k m (each-at gs e0 a) λ z z′ e. h _ _ (each-set d gs e)
-    paired-command f f′ H is j (TRUNC d a k m) gs h = paired-floor H .pair k m (each-at gs e0 a) λ z z′ e. h _ _ (each-set d gs e)
-    paired-command f f′ H is j (LTZ d a k) gs h = paired-sign H k (each-at gs e0 a) λ z z′ e. h _ _ (each-set d gs e)
-    paired-command f f′ H is j (OVER d a k v) gs h = paired-over H k v (each-at gs e0 a) λ z z′ e. h _ _ (each-set d gs e)
-    paired-command f f′ H is j (BLOCKS d a k m) gs h = paired-blocks H .pair k m (each-at gs e0 a) λ z z′ e. h _ _ (each-set d gs e)
-    paired-command f f′ H is j (REVEAL a) gs h = p-reveal (each-at gs e0 a) (h _ _ gs)
-    paired-command f f′ H is j (BITLT d b w v) gs h = paired-comparison .pair v (from-registers gs b w) λ z z′ e. h _ _ (each-set d gs e)
+    from-registers : (g : List X) (g′ : List Y) (b w : ℕ) → Reads (from b w) g g′ → Each E (registersFrom unset g b w) (registersFrom unset′ g′ b w)
+    unfolding registersFrom from
+    from-registers g g′ b zero h = no-more
+    from-registers g g′ b (suc w) h = and (h b (here refl)) (from-registers g g′ (suc b) w (λ r i. h r (there i)))
 
-    pub paired-lines : (f : RemainderBy X (Ended X)) (f′ : RemainderBy Y (Ended Y)) → PairedMod E (PairedEnds E) (f (comparison O)) (f′ (comparison O′)) → (triples : ℕ → ℕ) (u : Supply)
+    -- A command, where what it reads is in pairs: its cost says which registers these are, and it writes none but its target.
+    pub paired-command : {A B : Type 0} {R : Tree X A → Tree Y B → Type 0} (f : RemainderBy X A) (f′ : RemainderBy Y B)
+        → PairedMod E R (f (comparison O)) (f′ (comparison O′)) → {input : List X} {input′ : List Y} → Each E input input′ → (triples : ℕ → ℕ)
+        (j : ℕ) (c : Command) {g : List X} {g′ : List Y} {go : List X → Tree X A} {go′ : List Y → Tree Y B} → Reads (costBy triples c .reads) g g′
+        → PairedAfter E R (Wrote E g g′ (target c)) go go′ → Paired E R (command p O unset f input j c g go) (command p O′ unset′ f′ input′ j c g′ go′)
+    unfolding command costBy outputs
+    paired-command f f′ H is triples j (LOAD d) gs h = h _ _ (put (each-at is e0 j))
+    paired-command f f′ H is triples j (CONST d v) gs h = h _ _ (put (K .constant v))
+    paired-command f f′ H is triples j (ADD d a b) gs h = h _ _ (put (K .plus (gs a (here refl)) (gs b (there (here refl)))))
+    paired-command f f′ H is triples j (SUB d a b) gs h = h _ _ (put (K .minus (gs a (here refl)) (gs b (there (here refl)))))
+    paired-command f f′ H is triples j (SCALE d a v) gs h = h _ _ (put (K .times v (gs a (here refl))))
+    paired-command f f′ H is triples j (MUL d a b) gs h = p-multiply (gs a (here refl)) (gs b (there (here refl))) λ z z′ e. h _ _ (put e)
+    paired-command f f′ H is triples j (MOD d a k m) gs h = H .pair k m (gs a (here refl)) λ z z′ e. h _ _ (put e)
+    paired-command f f′ H is triples j (TRUNC d a k m) gs h = paired-floor H .pair k m (gs a (here refl)) λ z z′ e. h _ _ (put e)
+    paired-command f f′ H is triples j (LTZ d a k) gs h = paired-sign H k (gs a (here refl)) λ z z′ e. h _ _ (put e)
+    paired-command f f′ H is triples j (OVER d a k v) gs h = paired-over H k v (gs a (here refl)) λ z z′ e. h _ _ (put e)
+    paired-command f f′ H is triples j (BLOCKS d a k m) gs h = paired-blocks H .pair k m (gs a (here refl)) λ z z′ e. h _ _ (put e)
+    paired-command f f′ H is triples j (REVEAL a) gs h = p-reveal (gs a (here refl)) (h _ _ kept)
+    paired-command f f′ H is triples j (BITLT d b w v) gs h = paired-comparison .pair v (from-registers _ _ b w gs) λ z z′ e. h _ _ (put e)
+
+    -- lines, from registers that are all in pairs
+    each-wrote : {ds : List ℕ} {g w : List X} {g′ w′ : List Y} → Each E g g′ → Wrote E g g′ ds w w′ → Each E w w′
+    each-wrote gs kept = gs
+    each-wrote gs (put {d} e) = each-set d gs e
+
+    pub paired-lines : (f : RemainderBy X (Ended X)) (f′ : RemainderBy Y (Ended Y)) → PairedMod E (Ends (PairedEnds E)) (f (comparison O)) (f′ (comparison O′)) → (triples : ℕ → ℕ) (u : Supply)
         {input : List X} {input′ : List Y} → Each E input input′ → (end : ℕ) (xs : List Line) (s : Spent) {g : List X} {g′ : List Y} → Each E g g′
-        → Paired E (PairedEnds E) (lines p O unset f triples u input end xs s g) (lines p O′ unset′ f′ triples u input′ end xs s g′)
-    unfolding overLines
-    paired-lines f f′ H triples u is end [] s gs = p-done (record { number = refl; place = refl; spent = refl; registers = gs })
+        → Paired E (Ends (PairedEnds E)) (lines p O unset f triples u input end xs s g) (lines p O′ unset′ f′ triples u input′ end xs s g′)
+    unfolding throughLines
+    paired-lines f f′ H triples u is end [] s gs = p-last (ends (record { number = refl; place = refl; spent = refl; registers = gs }))
     paired-lines f f′ H triples u is end (x ∷ xs) s gs =
         let c = costBy triples (x .command) in
-        paired-stop (check u c s) (p-done (record { number = refl; place = refl; spent = refl; registers = gs }))
-        (paired-command f f′ H is (s .inputs) (x .command) gs λ w w′ ws. paired-lines f f′ H triples u is end xs (pay c s) ws)
+        paired-stop (check u c s)
+        (paired-command f f′ H is triples (s .counts .inputs) (x .command) (λ r _. each-at gs e0 r) λ w w′ ws.
+        paired-lines f f′ H triples u is end xs (pay c s) (each-wrote gs ws))
+        (p-last (ends (record { number = refl; place = refl; spent = refl; registers = gs })))

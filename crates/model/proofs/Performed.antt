@@ -1,19 +1,18 @@
 -- A command of a run does what the table of commands says, against the secrets read before it.
 -- Assumes nothing.
 use mathlib.Core.Path.{_≡_, refl, sym, ap, ap₂, _∙_}
-use mathlib.Core.Bool.{false, _&&_}
-use mathlib.Core.List.{List, [], _∷_, map, List·Memᴰ as In, List·Memᴰ·head as here}
-use Prim.Native.Nat.{ℕ, zero, suc, _+_, _%_, _^_, _<_}
+use mathlib.Core.Bool.{false}
+use mathlib.Core.List.{List, [], _∷_, map, List·Memᴰ·head as here}
+use Prim.Native.Nat.{ℕ, zero, suc, _%_, _<_}
 use native.Mathlib.Omega.{arith}
-use lib.Dec.{T, ltb, leb, ltb→lt, leb→le}
+use lib.Dec.{T}
 use lib.ListN.{getD, set}
 use lib.Seq.{getD-set-same}
 use Rattle.algebra.specs.Ring.{add, mul}
 use Rattle.algebra.specs.Lists.{from}
 use Rattle.algebra.proofs.Ring.{ring, mod-ring, reduced}
-use Rattle.algebra.proofs.Tests.{and-left, and-right, true-false}
 use Rattle.model.specs.Steps.{Setting, Row, Deal, constant, value, byRows}
-use Rattle.model.specs.Script.{Command, END, LOAD, CONST, ADD, SUB, SCALE, MUL, MOD, TRUNC, LTZ, OVER, BLOCKS, REVEAL, BITLT, isEnd, register, kIn, mIn, inRanges}
+use Rattle.model.specs.Script.{Command, LOAD, CONST, ADD, SUB, SCALE, MUL, MOD, TRUNC, LTZ, OVER, BLOCKS, REVEAL, BITLT, inRanges, outputs}
 use Rattle.model.specs.Costs.{costBy, cost}
 use Rattle.model.specs.Commands.{command}
 use Rattle.model.specs.Sheet.{secrets}
@@ -24,10 +23,11 @@ use Rattle.model.specs.Results.{secretIn, Leaves, target, Does}
 use Rattle.model.proofs.Each.{each-length}
 use Rattle.model.proofs.Sharings.{secret-lt}
 use Rattle.model.proofs.Formulas.{field-exact}
-use Rattle.model.proofs.Operands.{ranges, sign-ranges, low, low₂, low₃}
+use Rattle.model.proofs.Operands.{operands}
 use Rattle.model.proofs.Checks.{Passed}
 use Rattle.model.proofs.Courses.{shareds-at, length-values}
-use Rattle.model.proofs.Marks.{marked-kept, marked-set, writes-target}
+use Rattle.model.proofs.Marks.{marked-kept, marked-set}
+use Rattle.model.proofs.Outputs.{agrees}
 use Rattle.model.proofs.Held.{Holds, Given, none-shared, finished}
 
 -- a relation of two numbers, of numbers equal to them
@@ -37,33 +37,7 @@ equals P e f x = rw (e, f) x
 marks-are : (S : Setting) (input : List Row) (c : Command) (s : State) (r : ℕ)
     → getD (finish S input c s .spent .marks) r false ≡ getD (marked (s .spent .marks) (target c)) r false
 unfolding finish pay
-marks-are S input c s r = ap (λ (ds : List ℕ). getD (marked (s .spent .marks) ds) r false) (writes-target (S .l) c)
-
--- a target is one of the 64 registers
-one-low : {d : ℕ} → d < 64 → (r : ℕ) → In r (d ∷ []) → r < 64
-one-low h r (here e) = rw e h
-
-none-low : (r : ℕ) → In r [] → r < 64
-none-low r = elim [ ]
-
-target-low : (p K : ℕ) (c : Command) → T (inRanges p K c) → (r : ℕ) → In r (target c) → r < 64
-unfolding inRanges target
-target-low p K END ok = none-low
-target-low p K (REVEAL a) ok = none-low
-target-low p K (LOAD d) ok = one-low (ltb→lt d 64 ok)
-target-low p K (CONST d v) ok = one-low (low d (ltb v p) ok)
-target-low p K (ADD d a b) ok = one-low (low₂ d (register a) (register b) ok)
-target-low p K (SUB d a b) ok = one-low (low₂ d (register a) (register b) ok)
-target-low p K (SCALE d a v) ok = one-low (low₂ d (register a) (ltb v p) ok)
-target-low p K (MUL d a b) ok = one-low (low₂ d (register a) (register b) ok)
-target-low p K (MOD d a k m) ok = one-low (low₃ d (register a) (kIn K k) (mIn k m) ok)
-target-low p K (TRUNC d a k m) ok = one-low (low₃ d (register a) (kIn K k) (mIn k m) ok)
-target-low p K (LTZ d a k) ok = one-low (low₂ d (register a) (kIn K k) ok)
-target-low p K (OVER d a k v) ok = one-low (low₃ d (register a) (kIn K k) (ltb v p) ok)
-target-low p K (BLOCKS d a k m) ok = one-low (low₃ d (register a) (kIn K k) (mIn k m) ok)
-target-low p K (BITLT d b w v) ok =
-    let most = register d && register b && leb 1 w && leb w 31 in
-    one-low (low₃ d (register b) (leb 1 w) (leb w 31) (and-left most (leb (b + w) 64) (and-left (most && leb (b + w) 64) (ltb v (2 ^ w)) ok)))
+marks-are S input c s r = ap (λ (ds : List ℕ). getD (marked (s .spent .marks) ds) r false) (agrees (S .l) c .writes)
 
 module _ {S : Setting} {K : ℕ} {u : Supply} {input : List Row} {d₀ : Deal} (G : Given S K u input d₀) (s : State) (vs : List ℕ) (H : Holds S d₀ s vs) where
   -- the row and the secret of the register that was written
@@ -83,68 +57,63 @@ module _ {S : Setting} {K : ℕ} {u : Supply} {input : List Row} {d₀ : Deal} (
 
   -- of a command that writes d
   left : (c : Command) (ok : T (inRanges (S .p) K c)) (Q : Passed u (cost (S .l) c) (s .spent)) {d z : ℕ} → target c ≡ d ∷ []
-      → plainly (S .p) (secrets S input) (s .spent .inputs) c vs ≡ set vs d z → secretIn S (finish S input c s) d ≡ z
+      → plainly (S .p) (secrets S input) (s .spent .counts .inputs) c vs ≡ set vs d z → secretIn S (finish S input c s) d ≡ z
   left c ok Q {d} {z} q e =
-      let h = target-low (S .p) K c ok d (rw q (here refl)) in
+      let h = agrees (S .l) c .low (S .p) K ok d (rw q (here refl)) in
       shareds-at (none-shared G) (finished G s vs H c ok Q .holds .shareds) d .is ∙ rw e (getD-set-same vs d z 0 (omega (arith, h, H .values-64)))
 
   E : Exact (S .p) K
   E = field-exact (G .field)
 
-  leaves : (c : Command) → T (inRanges (S .p) K c) → isEnd c ≡ false → Passed u (cost (S .l) c) (s .spent) → Leaves S input c s (finish S input c s)
-  unfolding finish perform command byRows plainly costBy target inRanges
-  leaves END ok t Q = absurd (true-false t)
-  leaves (LOAD d) ok t Q = (omega (arith, Q .inputs, G .inputs-many), row-left d _ (ltb→lt d 64 ok))
-  leaves (CONST d v) ok t Q = let h = low d _ ok in (row-left d _ h ∙ (unfold constant in refl), left (CONST d v) ok Q refl refl)
-  leaves (ADD d a b) ok t Q =
+  leaves : (c : Command) → T (inRanges (S .p) K c) → Passed u (cost (S .l) c) (s .spent) → Leaves S input c s (finish S input c s)
+  unfolding finish perform command byRows plainly costBy outputs
+  leaves (LOAD d) ok Q = (omega (arith, Q .inputs, G .inputs-many), row-left d _ (operands (S .p) K (LOAD d) ok .0))
+  leaves (CONST d v) ok Q =
+      (row-left d _ (operands (S .p) K (CONST d v) ok .0) ∙ (unfold constant in refl), left (CONST d v) ok Q refl refl)
+  leaves (ADD d a b) ok Q =
       left (ADD d a b) ok Q refl refl
       ∙ (unfold add in rw (read-is a, read-is b))
-  leaves (SUB d a b) ok t Q =
+  leaves (SUB d a b) ok Q =
       rw (left (SUB d a b) ok Q refl refl, read-is a, read-is b)
       (reduced (below a) (let z : 0 < S .p = omega (arith, below a) in simp mod-ring (ring z _ _ _ _ (omega arith))))
-  leaves (SCALE d a v) ok t Q =
+  leaves (SCALE d a v) ok Q =
       left (SCALE d a v) ok Q refl refl
       ∙ (unfold mul in rw (read-is a) (ap (λ (z : ℕ). z % S .p) (omega arith)))
-  leaves (MUL d a b) ok t Q =
+  leaves (MUL d a b) ok Q =
       left (MUL d a b) ok Q refl refl
       ∙ (unfold mul in rw (read-is a, read-is b))
-  leaves (MOD d a k m) ok t Q =
-      let R = ranges K d a k m ok in
+  leaves (MOD d a k m) ok Q =
+      let R = operands (S .p) K (MOD d a k m) ok in
       equals (Remains (S .p) k m) (read-is a) (left (MOD d a k m) ok Q refl refl)
-      (E .remains k m _ (omega arith) (R .k-most) (R .m-least) (R .m-most) (below a))
-  leaves (TRUNC d a k m) ok t Q =
-      let R = ranges K d a k m ok in
+      (E .remains k m _ (omega arith) (omega arith) (omega arith) (omega arith) (below a))
+  leaves (TRUNC d a k m) ok Q =
+      let R = operands (S .p) K (TRUNC d a k m) ok in
       equals (Divides (S .p) k m) (read-is a) (left (TRUNC d a k m) ok Q refl refl)
-      (E .divides k m _ (omega arith) (R .k-most) (R .m-least) (R .m-most) (below a))
-  leaves (BLOCKS d a k m) ok t Q =
-      let R = ranges K d a k m ok in
+      (E .divides k m _ (omega arith) (omega arith) (omega arith) (omega arith) (below a))
+  leaves (BLOCKS d a k m) ok Q =
+      let R = operands (S .p) K (BLOCKS d a k m) ok in
       equals (Charges (S .p) k m) (read-is a) (left (BLOCKS d a k m) ok Q refl refl)
-      (E .charges k m _ (omega arith) (R .k-most) (R .m-least) (R .m-most) (below a))
-  leaves (LTZ d a k) ok t Q =
-      let R = sign-ranges K d a k ok in
-      equals (Signs (S .p) k) (read-is a) (left (LTZ d a k) ok Q refl refl)
-      (E .signs k _ (omega (arith, R .m-least)) (R .k-most) (below a))
-  leaves (OVER d a k v) ok t Q =
-      let before = register d && register a && kIn K k in
-      let R = sign-ranges K d a k (and-left before (ltb v (S .p)) ok) in
+      (E .charges k m _ (omega arith) (omega arith) (omega arith) (omega arith) (below a))
+  leaves (LTZ d a k) ok Q =
+      let R = operands (S .p) K (LTZ d a k) ok in
+      equals (Signs (S .p) k) (read-is a) (left (LTZ d a k) ok Q refl refl) (E .signs k _ (omega arith) (omega arith) (below a))
+  leaves (OVER d a k v) ok Q =
+      let R = operands (S .p) K (OVER d a k v) ok in
       equals (Exceeds (S .p) k v) (read-is a) (left (OVER d a k v) ok Q refl refl)
-      (E .exceeds-by k v _ (omega (arith, R .m-least)) (R .k-most) (ltb→lt v (S .p) (and-right before (ltb v (S .p)) ok)) (below a))
-  leaves (REVEAL a) ok t Q = (refl, (unfold value in refl))
-  leaves (BITLT d b w v) ok t Q =
-      let most = register d && register b && leb 1 w && leb w 31 in
-      let x = and-left (most && leb (b + w) 64) (ltb v (2 ^ w)) ok in
-      let m = and-left most (leb (b + w) 64) x in
-      let one-least = leb→le 1 w (and-right (register d && register b) (leb 1 w) (and-left (register d && register b && leb 1 w) (leb w 31) m)) in
+      (E .exceeds-by k v _ (omega arith) (omega arith) (omega arith) (below a))
+  leaves (REVEAL a) ok Q = (refl, (unfold value in refl))
+  leaves (BITLT d b w v) ok Q =
+      let R = operands (S .p) K (BITLT d b w v) ok in
       rw (values-read b w, left (BITLT d b w v) ok Q refl refl)
-      (E .compares v (valuesFrom vs b w) (rw (length-values vs) one-least) (rw (length-values vs) (ltb→lt v (2 ^ w) (and-right (most && leb (b + w) 64) (ltb v (2 ^ w)) ok))))
+      (E .compares v (valuesFrom vs b w) (rw (length-values vs) (omega arith)) (rw (length-values vs) (omega arith)))
 
   -- what a command does to its target and to the other registers
-  pub does : (c : Command) → T (inRanges (S .p) K c) → isEnd c ≡ false → Passed u (cost (S .l) c) (s .spent) → Does S K input c s (finish S input c s)
-  does c ok t Q =
+  pub does : (c : Command) → T (inRanges (S .p) K c) → Passed u (cost (S .l) c) (s .spent) → Does S K input c s (finish S input c s)
+  does c ok Q =
       record {
         in-range = ok;
-        leaves = leaves c ok t Q;
+        leaves = leaves c ok Q;
         below = λ r. secret-lt (G .field .modulus-is) (G .parties) _;
-        sets = λ r i. marks-are S input c s r ∙ marked-set (s .spent .marks) (target c) r i (omega (arith, target-low (S .p) K c ok r i, H .marks-64));
+        sets = λ r i. marks-are S input c s r ∙ marked-set (s .spent .marks) (target c) r i (omega (arith, agrees (S .l) c .low (S .p) K ok r i, H .marks-64));
         keeps = λ r n. (finished G s vs H c ok Q .kept r n, marks-are S input c s r ∙ marked-kept (s .spent .marks) (target c) r n);
       }

@@ -9,11 +9,12 @@ use lib.ListN.{take, drop}
 use Rattle.algebra.specs.Lists.{Below}
 use Rattle.algebra.proofs.Lists.{below-nil, below-head, below-tail, below-cons}
 use Rattle.model.specs.Steps.{Row, Deal}
-use Rattle.model.specs.Sheet.{Header, headerOf, scriptIn, inputIn, dealIn, bytesOf, shareBytes, rowBytes, headerBytes, sheetOf}
+use Rattle.model.specs.Sheet.{Header, headerOf, headerSize, scriptIn, inputIn, dealIn, bytesOf, shareBytes, rowBytes, headerBytes, sheetOf}
 use Rattle.model.specs.Making.{Says}
 use Rattle.model.specs.Exactness.{Accepted}
 use Rattle.model.specs.Secrecy.{WellFormed, madeOn}
 use Rattle.model.specs.RealRuns.{RealRun, RealRuns}
+use Rattle.model.proofs.Fields.{listed}
 use Rattle.model.proofs.Acceptance.{sound}
 use Rattle.model.proofs.Making.{making}
 use Rattle.model.proofs.MadeSheets.{Facts, says, not-refused, script-read}
@@ -65,14 +66,15 @@ module _ (s : List ℕ) (A : Accepted s) where
   F = facts s (A .lines) (A .end) (A .number) (A .script)
 
   own-formed : WellFormed (headerOf s) (dealIn (headerOf s) s)
-  own-formed = well-formed (headerOf s) 0 0 (F .field) (own-deal s (A .lines) (A .end) (A .number) (A .script) 0 0)
+  own-formed = well-formed (headerOf s) 0 0 (F .permitted .field) (own-deal s (A .lines) (A .end) (A .number) (A .script) 0 0)
 
   made-bytes : (d : Deal) → Below 256 s → Below 256 (madeOn s d)
   unfolding sheetOf scriptIn
   made-bytes d b =
       let h = headerOf s in
-      below-append (headerBytes h) _ (header-bytes h (omega (arith, F .field)) (omega (arith, F .people)) (omega (arith, F .people)))
-      (below-append (scriptIn h s) _ (below-take (h .script) (drop 11 s) (below-drop 11 s b))
+      let P = F .permitted in
+      below-append (headerBytes h) _ (header-bytes h (omega (arith, listed (h .field) (P .field))) (omega (arith, P .people)) (omega (arith, P .people)))
+      (below-append (scriptIn h s) _ (below-take (h .script) (drop (headerSize h) s) (below-drop (headerSize h) s b))
       (below-append (rowBytes (h .n) (inputIn h s)) _ (row-bytes (h .n) (inputIn h s)) (row-bytes (h .n) _)))
 
   real : (d : Deal) → WellFormed (headerOf s) d → RealRun s d
@@ -91,5 +93,5 @@ real-runs =
     record {
       made = real;
       own-deal = own-formed;
-      own-run = λ s A b. making .making-undoes s b _ _ _ _ (own-says s A) (omega (arith, sound s (A .number) .people)) .1;
+      own-run = λ s A b. making .making-undoes s b _ _ _ _ (own-says s A) (omega (arith, sound s (A .number) .permitted .people)) .1;
     }

@@ -2,68 +2,41 @@
 -- Assumes nothing.
 use mathlib.Core.Path.{_≡_, refl, sym, ap, subst, _∙_}
 use mathlib.Core.Logic.{_↔_, _≢_, _⊎_, inl, inr, ⊎-elim}
-use mathlib.Core.Bool.{Bool, true, false, cond, _||_}
+use mathlib.Core.Bool.{Bool, true, false, _||_}
 use mathlib.Core.List.{List, [], _∷_}
-use Prim.Native.Nat.{ℕ, zero, suc, _+_, _*_, _≤_, _<_}
+use Prim.Native.Nat.{ℕ, zero, suc, _≤_}
 use native.Mathlib.Omega.{arith}
-use borrow.Author.Tests.{ltb-false}
-use lib.Dec.{T, ltb, leb, eqb, lit≤, leb→le, le→leb, eqb→eq}
-use lib.ListN.{length, getD}
-use Rattle.algebra.specs.Lists.{over}
-use Rattle.algebra.proofs.Tests.{choice}
+use lib.Dec.{T, leb, eqb, leb→le, le→leb, eqb→eq}
+use lib.ListN.{length}
+use Rattle.algebra.specs.Lists.{onto, none, one}
+use Rattle.model.specs.Fields.{fieldTests, settingTests}
 use Rattle.model.specs.Steps.{Setting, Row}
-use Rattle.model.specs.Script.{Line, Script, accepted, refused, commandAt, sizeAt, inRanges, numberAt, withLine, scriptStep, scriptFrom, scriptOf}
+use Rattle.model.specs.Script.{Line, Script, accepted, refused, scriptOf}
+use Rattle.model.specs.Refusing.{given}
 use Rattle.model.specs.Costs.{Cost, cost}
-use Rattle.model.specs.Sheet.{headerOf, sheetNumber}
-use Rattle.model.specs.Run.{Spent, State, Supply, Stop, allSet, check, finish, orElse, runLines, nothingSpent, start, outcome, refusedInput, written, runScript, sheetScript, stopOf, run}
+use Rattle.model.specs.Sheet.{headerOf, headerTests, limitTests, lengthTests, rowTests, sheetTests, sheetNumber}
+use Rattle.model.specs.Run.{Spent, State, Supply, Stop, check, finish, runLines, nothingSpent, start, outcome, refusedInput, written, runScript, sheetScript, stopOf, run}
 use Rattle.model.specs.Exactness.{Accepted}
 use Rattle.model.specs.Refusals.{isRun, From, Numbered, Numbers, Untouched, NothingRun}
+use Rattle.model.proofs.Trying.{upTo, number-most, failed-in}
 use Rattle.model.proofs.StepLaws.{run-end, run-line}
+use Rattle.model.proofs.Readings.{every-script}
 
 -- 1 to 8, or 0
-low : (b : Bool) (x y : ℕ) → x ≤ 8 → y ≤ 8 → cond b x y ≤ 8
-low true x y h k = h
-low false x y h k = k
-
 sheet-low : (s : List ℕ) → sheetNumber s ≤ 8
-unfolding sheetNumber
-sheet-low s = search (low, lit≤, tt) depth 10
+unfolding sheetTests headerTests fieldTests settingTests limitTests lengthTests rowTests upTo
+sheet-low s = number-most 8 (sheetTests s) tt
 
--- What stands at a place of a script: 9 to 11, or 0 and then a command byte.
-module _ (p K : ℕ) (s : List ℕ) where
-  abbrev pub Told : ℕ → ℕ → Type 0
-  Told i number = (number ≢ 0 → From 9 11 number) × (number ≡ 0 → getD s i 0 < 14)
+-- a script is refused with 9 to 11
+abbrev Late : Script → Type 0
+Late (accepted xs end) = Unit {0}
+Late (refused number place) = From 9 11 number
 
-  pub told : (i : ℕ) → Told i (numberAt p K s i)
-  unfolding numberAt
-  told i =
-      choice (Told i) (leb (length s) i) (λ _. omega arith)
-      (λ _. choice (Told i) (ltb 13 (getD s i 0)) (λ _. omega arith)
-      (λ f. choice (Told i) (ltb (length s) (i + sizeAt s i)) (λ _. omega arith)
-      (λ _. choice (Told i) (inRanges p K (commandAt s i)) (λ _. omega (arith, ltb-false 13 (getD s i 0) f)) (λ _. omega arith))))
-
-  -- so a script is refused with 9 to 11
-  abbrev Late : Script → Type 0
-  Late (accepted xs end) = Unit {0}
-  Late (refused number place) = From 9 11 number
-
-  with-line : (x : Line) (rest : Script) → Late rest → Late (withLine x rest)
-  with-line x (accepted xs end) k = tt
-  with-line x (refused number place) k = k
-
-  step : (number i : ℕ) (rest : Script) → Told i number → Late rest → Late (scriptStep number s i rest)
-  step (suc number) i rest t k = t .0 (omega arith)
-  step zero i rest t k =
-      choice Late (eqb (getD s i 0) 0) (λ _. choice Late (eqb (i + 1) (length s)) (λ _. tt) (λ _. omega arith)) (λ _. with-line _ rest k)
-
-  late : (most i : ℕ) → Late (scriptFrom most p K s i)
-  unfolding scriptFrom
-  late zero i = omega arith
-  late (suc most) i = step (numberAt p K s i) i _ (told i) (late most (i + sizeAt s i))
-
-  script-late : {number place : ℕ} → scriptOf p K s ≡ refused number place → From 9 11 number
-  unfolding scriptOf
-  script-late e = subst Late e (late (suc (length s)) 0)
+script-late : (p K : ℕ) (s : List ℕ) {number place : ℕ} → scriptOf p K s ≡ refused number place → From 9 11 number
+unfolding scriptOf
+script-late p K s e =
+    subst Late e
+    (every-script p K s (λ i. Late) (record { ended = λ i S. tt; line = λ i next c S xs end k. tt; refuses = λ i number place h. h }) (suc (length s)) 0)
 
 -- The lines of a script stop with 0, or with 21 to 26.
 abbrev OfState : ℕ → Type 0
@@ -72,25 +45,19 @@ OfState number = (number ≢ 0) → From 21 26 number
 checked : (u : Supply) (c : Cost) (s : Spent) → OfState (check u c s)
 unfolding check
 checked u c s =
-    choice OfState (allSet (s .marks) (c .reads))
-    (λ _. choice OfState (leb (s .inputs + c .inputs) (u .inputs))
-    (λ _. choice OfState (leb (s .masks + c .masks) (u .masks))
-    (λ _. choice OfState (leb (s .triples + c .triples) (u .triples))
-    (λ _. choice OfState (leb ((s .openings + c .openings) * u .parties) (u .log))
-    (λ _. choice OfState (leb (s .revealed + c .revealed) (u .shown)) (λ _. omega arith) (λ _. omega arith))
-    (λ _. omega arith)) (λ _. omega arith)) (λ _. omega arith)) (λ _. omega arith)) (λ _. omega arith)
+    failed-in OfState (λ z. absurd (z refl))
+    (one (λ _. omega arith) (one (λ _. omega arith) (one (λ _. omega arith) (one (λ _. omega arith) (one (λ _. omega arith) (one (λ _. omega arith) none))))))
 
--- what holds of the number of a stop: of a refusal's, or else of the rest's
-pub or-else : (P : ℕ → Type 0) (number place : ℕ) (s : State) (x : Stop) → P number → (number ≡ 0 → P (x .number)) → P (orElse number place s x .number)
-or-else P zero place s x h k = k refl
-or-else P (suc number) place s x h k = h
+-- what holds of the number of a stop: of the rest's where the number is 0, else of a refusal's
+pub either : (P : ℕ → Type 0) (number : ℕ) (x y : Stop) → (number ≡ 0 → P (x .number)) → P (y .number) → P (given number x y .number)
+either P zero x y h k = h refl
+either P (suc number) x y h k = k
 
 lines : (S : Setting) (u : Supply) (input : List Row) (end : ℕ) (xs : List Line) (s : State) → OfState (runLines S u input end xs s .number)
 lines S u input end [] s = rw (run-end S u input end s) (λ k. absurd (k refl))
 lines S u input end (x ∷ xs) s =
     rw (run-line S u input end x xs s)
-    (or-else OfState (check u (cost (S .l) (x .command)) (s .spent)) (x .place) s _ (checked u _ _)
-    (λ _. lines S u input end xs (finish S input (x .command) s)))
+    (either OfState (check u (cost (S .l) (x .command)) (s .spent)) _ _ (λ _. lines S u input end xs (finish S input (x .command) s)) (checked u _ _))
 
 -- How a sheet's stop comes about.
 data Way (s : List ℕ) (x : Stop) : Type 0 where
@@ -106,7 +73,7 @@ way s log shown = go (sheetNumber s) refl
     script e (refused number place) q = by-script e q refl
     script e (accepted xs end) q = by-run (record { lines = xs; end = end; number = e; script = q }) (lines _ _ _ end xs _)
 
-    go : (n : ℕ) → sheetNumber s ≡ n → Way s (orElse n 0 (start (record { masks = []; triples = [] })) (runScript (headerOf s) s log shown (sheetScript s)))
+    go : (n : ℕ) → sheetNumber s ≡ n → Way s (given n (runScript (headerOf s) s log shown (sheetScript s)) (refusedInput n 0))
     go zero e = script e (sheetScript s) refl
     go (suc n) e = by-sheet (λ z. omega arith) (rw e)
 
@@ -209,18 +176,14 @@ numbers =
 
 -- what a refused input leaves
 kept : (n : ℕ) (log revealed : List ℕ) (number place : ℕ) → Untouched log revealed (outcome n log revealed (refusedInput number place))
-unfolding outcome written start nothingSpent over
+unfolding outcome written start nothingSpent onto
 kept n log revealed number place =
     record {
       log-kept = refl;
       revealed-kept = refl;
       unset = refl;
       cells = refl;
-      inputs = refl;
-      masks = refl;
-      triples = refl;
-      openings = refl;
-      values = refl;
+      counts = refl;
     }
 
 untouched : (n : ℕ) (log revealed s : List ℕ) (x : Stop) → (Accepted s → ⊥) → Way s x → Untouched log revealed (outcome n log revealed x)

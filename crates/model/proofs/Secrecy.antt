@@ -3,7 +3,7 @@
 -- Assumes nothing.
 use mathlib.Core.Path.{_≡_, sym, ap, ap₂, subst, _∙_}
 use mathlib.Core.List.{List}
-use Prim.Native.Nat.{ℕ, _<_}
+use Prim.Native.Nat.{ℕ}
 use native.Mathlib.Omega.{arith}
 use lib.Dec.{T, eqb, eqb-refl, lt→ltb}
 use lib.ListN.{length, drop, length-drop}
@@ -11,16 +11,16 @@ use lib.Seq.{length-take-le}
 use Rattle.algebra.specs.Lists.{All, none, one, allBelow}
 use Rattle.algebra.proofs.Lists.{all-below}
 use Rattle.algebra.proofs.Tests.{and-both}
-use Rattle.model.specs.Fields.{Field, modulus, bits, largestK}
+use Rattle.model.specs.Fields.{Field, InUse}
 use Rattle.model.specs.Sharing.{Sharing, secret}
 use Rattle.model.specs.Shamir.{Group}
 use Rattle.model.specs.Steps.{Setting, Row, Triple, Deal}
 use Rattle.model.specs.Script.{Line, accepted, scriptOf}
-use Rattle.model.specs.Sheet.{Header, headerOf, settingOf, impliedLength, scriptIn, inputIn, dealIn, maskRows, tripleRows, dealRows, spell, goodMask, goodTriple, sheetNumber, sheetOf}
+use Rattle.model.specs.Sheet.{Header, headerOf, headerSize, maskBits, largestIn, settingOf, impliedLength, scriptIn, inputIn, dealIn, maskRows, tripleRows, dealRows, spell, goodMask, goodTriple, sheetNumber, sheetOf}
 use Rattle.model.specs.Run.{Stop, start, runLines, outcome, supplyOf, runScript, sheetScript, stopOf, run}
 use Rattle.model.specs.Secrecy.{WellFormed, Alike, SameTo, runOn, Secrecy}
 use Rattle.model.proofs.Each.{each-length}
-use Rattle.model.proofs.Fields.{fields}
+use Rattle.model.proofs.Lengths.{header-field}
 use Rattle.model.proofs.Bits.{bitsOf, length-bits}
 use Rattle.model.proofs.Unmasking.{masking-bits}
 use Rattle.model.proofs.Shared.{TripleOk}
@@ -64,14 +64,14 @@ module _ (h : Header) (log shown : ℕ) where
         triples-many = W .triples;
       }
 
-  pub well-formed : h .field < 4 → {d : Deal} → Formed (settingOf h) (supplyOf h log shown) d → WellFormed h d
+  pub well-formed : InUse (h .field) → {d : Deal} → Formed (settingOf h) (supplyOf h log shown) d → WellFormed h d
   well-formed f {d} F =
       record {
         masks = F .masks-many;
-        bits-each = all-map (λ m N. each-length (N .shareds) ∙ length-bits (bits (h .field)) (N .r)) (F .masks-ok);
+        bits-each = all-map (λ m N. each-length (N .shareds) ∙ length-bits (maskBits h) (N .r)) (F .masks-ok);
         triples = F .triples-many;
         sharings = all-append (mask-rows (settingOf h) (F .masks-ok)) (triple-rows (settingOf h) (F .triples-ok));
-        good-masks = all-map (good-mask (settingOf h) (fields (h .field) f)) (F .masks-ok);
+        good-masks = all-map (good-mask (settingOf h) (header-field h f)) (F .masks-ok);
         good-triples = all-map (good-triple (settingOf h)) (F .triples-ok);
       }
 
@@ -83,11 +83,9 @@ module _ (s : List ℕ) (xs : List Line) (end : ℕ) (number : sheetNumber s ≡
       let Q = sound s number in
       let h = headerOf s in
       record {
-        field = Q .field;
-        people = Q .people;
-        counts = Q .counts;
+        permitted = Q .permitted;
         script-is = script;
-        script-length = length-take-le (h .script) (drop 11 s) (rw length-drop (omega (arith, Q .size)));
+        script-length = length-take-le (h .script) (drop (headerSize h) s) (rw length-drop (omega (arith, Q .size)));
         sharings = all-left (inputIn h s) (dealRows (dealIn h s)) (Q .sharings);
         inputs = shape-in h s .inputs;
       }
@@ -109,11 +107,7 @@ same-outcome set n a b {x} {y} Q =
       revealed = rw (Q .shown);
       number = Q .number;
       place = Q .place;
-      inputs = rw (Q .spent);
-      masks = rw (Q .spent);
-      triples = rw (Q .spent);
-      openings = rw (Q .spent);
-      values = rw (Q .spent);
+      counts = rw (Q .spent);
       marks = rw (Q .spent);
       columns = Q .columns;
     }
@@ -126,13 +120,13 @@ module _ (h : Header) (script : List ℕ) (xs : List Line) (end log shown : ℕ)
     ≡ runLines (settingOf h) (supplyOf h log shown) input′ end xs (start d′) .state .shown) where
   over-rows : Veiled (settingOf h) (supplyOf h log shown) end xs set input input′
   over-rows =
-      veiled (settingOf h) (fields (h .field) (F .field)) (F .people) (supplyOf h log shown) end xs
-      (lines-ok (modulus (h .field)) (largestK (h .field)) script xs end (F .script-is)) G (F .sharings) (F′ .sharings) L d d′ D D′ e
+      veiled (settingOf h) (header-field h (F .permitted .field)) (F .permitted .people) (supplyOf h log shown) end xs
+      (lines-ok (settingOf h .p) (largestIn h) script xs end (F .script-is)) G (F .sharings) (F′ .sharings) L d d′ D D′ e
 
   runs-same : (q : Deal) → WellFormed h q → (a b : List ℕ) → length a ≡ log → length b ≡ shown
       → SameTo set (run (sheetOf h script input q) a b) (run (sheetOf h script input′ (over-rows .to q)) a b)
   runs-same q W a b la lb =
-      rw (made-run F W a b, made-run F′ (well-formed h log shown (F .field) (over-rows .to-formed q (formed h log shown W))) a b, la, lb)
+      rw (made-run F W a b, made-run F′ (well-formed h log shown (F .permitted .field) (over-rows .to-formed q (formed h log shown W))) a b, la, lb)
       (same-outcome set (h .n) a b (over-rows .same q (formed h log shown W)))
 
 -- demand 3
@@ -141,8 +135,8 @@ secrecy set s s′ log shown B q =
     record {
       to = rows .to;
       from = rows .from;
-      to-formed = λ d W. well-formed h log shown (F .field) (rows .to-formed d (formed h log shown W));
-      from-formed = λ d W. well-formed h log shown (F .field) (rows .from-formed d (formed h log shown W));
+      to-formed = λ d W. well-formed h log shown (F .permitted .field) (rows .to-formed d (formed h log shown W));
+      from-formed = λ d W. well-formed h log shown (F .permitted .field) (rows .from-formed d (formed h log shown W));
       from-to = λ d W. rows .from-to d (formed h log shown W);
       to-from = λ d W. rows .to-from d (formed h log shown W);
       keeps = λ d W. rows .keeps d (formed h log shown W);
@@ -175,7 +169,7 @@ secrecy set s s′ log shown B q =
     -- the second sheet has the first one's lines
     second : sheetScript s′ ≡ accepted (B .first .lines) (B .first .end)
     second =
-        sym (ap₂ (λ (z : Header) (c : List ℕ). scriptOf (settingOf z .p) (largestK (z .field)) c) (B .header) (B .script)) ∙ B .first .script
+        sym (ap₂ (λ (z : Header) (c : List ℕ). scriptOf (settingOf z .p) (largestIn z) c) (B .header) (B .script)) ∙ B .first .script
 
     F : Facts (headerOf s) (scriptIn (headerOf s) s) (inputIn (headerOf s) s) (B .first .lines) (B .first .end)
     F = facts s xs e (B .first .number) (B .first .script)

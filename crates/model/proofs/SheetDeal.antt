@@ -7,10 +7,9 @@ use native.Mathlib.Nat.{add-zero, zero-add, suc-add, mul-zero, mul-assoc}
 use native.Mathlib.Omega.{arith}
 use lib.ListN.{length, take, drop, length-append}
 use lib.Seq.{take-at, drop-at}
-use Rattle.model.specs.Fields.{bits}
 use Rattle.model.specs.Bytes.{rowAt}
 use Rattle.model.specs.Steps.{Row, Triple, Deal}
-use Rattle.model.specs.Sheet.{Header, inputsAt, impliedLength, inputIn, dealIn, dealRows, rowsAt, masksFrom, triplesFrom, maskRows, tripleRows}
+use Rattle.model.specs.Sheet.{Header, maskBits, inputsAt, impliedLength, inputIn, dealIn, dealRows, rowsAt, masksFrom, triplesFrom, maskRows, tripleRows}
 
 -- two lists of the same length, before two others
 halves : {A : Type 0} (a b c d : List A) → length a ≡ length b → a ++ c ≡ b ++ d → (a ≡ b) × (c ≡ d)
@@ -98,7 +97,7 @@ module _ (s : List ℕ) (n : ℕ) where
 
 -- a header's number of rows; the length that it implies; and all rows, in the sheet's order
 abbrev pub rowCount : Header → ℕ
-rowCount h = h .inputs + (bits (h .field) * h .masks + 3 * h .triples)
+rowCount h = h .inputs + (maskBits h * h .masks + 3 * h .triples)
 
 pub implied : (h : Header) → impliedLength h ≡ inputsAt h + 4 * h .n * rowCount h
 unfolding impliedLength
@@ -106,14 +105,14 @@ implied h = omega arith
 
 pub all-rows : (h : Header) (s : List ℕ) → inputIn h s ++ dealRows (dealIn h s) ≡ rowsAt s (h .n) (inputsAt h) (rowCount h)
 unfolding inputIn dealIn
-all-rows h s = rw (mask-rows, triple-rows, mul-assoc (4 * h .n) (bits (h .field)) (h .masks), ← rows-add, ← rows-add)
+all-rows h s = rw (mask-rows, triple-rows, mul-assoc (4 * h .n) (maskBits h) (h .masks), ← rows-add, ← rows-add)
 
 -- input and deal as long as a header says
 pub record Shape (h : Header) (input : List Row) (d : Deal) : Type 0 where
   pub inputs : length input ≡ h .inputs
   pub masks : length (d .masks) ≡ h .masks
   pub triples : length (d .triples) ≡ h .triples
-  pub each : Masks (bits (h .field)) (d .masks)
+  pub each : Masks (maskBits h) (d .masks)
 
 pub shape-in : (h : Header) (s : List ℕ) → Shape h (inputIn h s) (dealIn h s)
 unfolding inputIn dealIn
@@ -126,12 +125,12 @@ shape-in h s = record {
 
 pub length-all : {h : Header} {xs : List Row} {d : Deal} → Shape h xs d → length (xs ++ dealRows d) ≡ rowCount h
 length-all {h} {xs} {d} S =
-    rw (length-append, length-append, length-masks (bits (h .field)) (d .masks) (S .each), length-triples, S .inputs, S .masks, S .triples)
+    rw (length-append, length-append, length-masks (maskBits h) (d .masks) (S .each), length-triples, S .inputs, S .masks, S .triples)
 
 -- they are given by their rows
 pub same : {h : Header} {xs ys : List Row} {d e : Deal} → Shape h xs d → Shape h ys e → xs ++ dealRows d ≡ ys ++ dealRows e → (xs ≡ ys) × (d ≡ e)
 same {h} {xs} {ys} {d} {e} S Z r =
-    let l = bits (h .field) in
+    let l = maskBits h in
     let one = halves xs ys _ _ (S .inputs ∙ sym (Z .inputs)) r in
     let k = length-masks l (d .masks) (S .each) ∙ ap (λ (c : ℕ). l * c) (S .masks ∙ sym (Z .masks)) ∙ sym (length-masks l (e .masks) (Z .each)) in
     let two = halves (maskRows (d .masks)) (maskRows (e .masks)) _ _ k (one .1) in

@@ -5,15 +5,17 @@ use mathlib.Core.Path.{_≡_, refl, sym, ap, _∙_}
 use mathlib.Core.Bool.{cond}
 use mathlib.Core.List.{List, [], _∷_, _++_, append-assoc, append-nil}
 use Prim.Native.Nat.{ℕ, zero, suc, _+_, _-_, _/_}
-use lib.ListN.{getD, set}
+use lib.ListN.{set}
 use Rattle.model.specs.Trees.{Tree, done, multiply, odd}
 use Rattle.model.specs.Trees as Trees
 use Rattle.model.specs.Steps.{Setting, Row, Deal, Worked, after, rowOps, byRows, Step, stepOf, rowRemainder, minus, constant, product, comparison, remainder, floor, sign, over, blocks, quotient, lessTriple, nextTriple, beaver, value}
 use Rattle.model.specs.Parts.{parts, EveryStep, stepped, Put, EveryCommand, RunByCommands}
-use Rattle.model.specs.Script.{Command, END, LOAD, CONST, ADD, SUB, SCALE, MUL, MOD, TRUNC, LTZ, OVER, BLOCKS, REVEAL, BITLT, Line}
+use Rattle.model.specs.Script.{Command, MUL, MOD, TRUNC, LTZ, OVER, BLOCKS, BITLT, Line}
+use Rattle.model.specs.Refusing.{given}
 use Rattle.model.specs.Costs.{cost}
-use Rattle.model.specs.Commands.{Ended, orStop, registersFrom, command, overLines}
-use Rattle.model.specs.Run.{Spent, State, rowCommand, Supply, Stop, noRow, check, pay, stateAfter, perform, finish, orElse, runLines}
+use Rattle.model.specs.Commands.{Ended, command, throughLines}
+use Rattle.model.specs.Run.{Spent, State, rowCommand, Supply, Stop, check, pay, stateAfter, perform, finish, runLines}
+use Rattle.model.proofs.Reaching.{command-does}
 
 -- a row made without an opening, as a step
 abbrev pub made : Deal → Row → Step
@@ -110,38 +112,10 @@ module _ (S : Setting) where
   unfolding byRows
   putting-is r g x = simp append-nil
 
-  module _ {A : Type 0} where
-    -- w is done, and then a tree
-    abbrev then : Worked (List Row) → (List Row → Tree Row A) → Worked A
-    then w go = after (w .opened) (w .shown) (byRows S (go (w .left)) (w .deal))
-
-    goes-on : (go : List Row → Tree Row A) (r : ℕ) (g : List Row) (x : Step) {w : Worked (List Row)} {v : Worked A}
-        → v ≡ after (x .opened) [] (byRows S (go (set g r (x .left))) (x .deal)) → w ≡ putting r g x → v ≡ then w go
-    goes-on go r g x e f = rw (f ∙ putting-is r g x) e
-
-    command-does : (input : List Row) (j : ℕ) (c : Command) (g : List Row) (go : List Row → Tree Row A) (d : Deal)
-        → byRows S (rowCommand S input j c g go) d
-        ≡ then (byRows S (rowCommand S input j c g done) d) go
-    unfolding command byRows
-    command-does input j END g go d = refl
-    command-does input j (LOAD r) g go d = refl
-    command-does input j (CONST r v) g go d = refl
-    command-does input j (ADD r a b) g go d = refl
-    command-does input j (SUB r a b) g go d = refl
-    command-does input j (SCALE r a v) g go d = refl
-    command-does input j (MUL r a b) g go d = refl
-    command-does input j (MOD r a k m) g go d = goes-on go r g (remainder S k m (getD g a noRow) d) (remainder-does k m _ _ d) (remainder-does k m _ _ d)
-    command-does input j (TRUNC r a k m) g go d = goes-on go r g (floor S k m (getD g a noRow) d) (floor-does k m _ _ d) (floor-does k m _ _ d)
-    command-does input j (LTZ r a k) g go d = goes-on go r g (sign S k (getD g a noRow) d) (sign-does k _ _ d) (sign-does k _ _ d)
-    command-does input j (OVER r a k v) g go d = goes-on go r g (over S k v (getD g a noRow) d) (over-does k v _ _ d) (over-does k v _ _ d)
-    command-does input j (BLOCKS r a k m) g go d = goes-on go r g (blocks S k m (getD g a noRow) d) (blocks-does k m _ _ d) (blocks-does k m _ _ d)
-    command-does input j (REVEAL a) g go d = refl
-    command-does input j (BITLT r b w v) g go d = goes-on go r g (comparison S v (registersFrom noRow g b w) d) (comparison-does S v _ _ d) (comparison-does S v _ _ d)
-
   -- a command that works as the step x and leaves its row in register r; that command performed, and finished
   abbrev pub Puts : List Row → Command → ℕ → State → Step → Type 0
   Puts input c r s x =
-      byRows S (rowCommand S input (s .spent .inputs) c (s .registers) done) (s .deal) ≡ putting r (s .registers) x
+      byRows S (rowCommand S input (s .spent .counts .inputs) c (s .registers) done) (s .deal) ≡ putting r (s .registers) x
 
   pub perform-put : (input : List Row) (c : Command) (r : ℕ) (s : State) (x : Step) → Puts input c r s x → Put S input c r s x
   unfolding perform
@@ -162,7 +136,7 @@ module _ (S : Setting) where
 
   -- the run of no lines, and of one line more: "Each command gets exactly what the one before it left; a refused one ends the run."
   pub run-end : (u : Supply) (input : List Row) (end : ℕ) (s : State) → runLines S u input end [] s ≡ record { number = 0; place = end; state = s }
-  unfolding runLines overLines byRows
+  unfolding runLines throughLines byRows
   run-end u input end s = simp append-nil
 
   -- the stop of a tree worked on a state's deal
@@ -186,20 +160,22 @@ module _ (S : Setting) where
       }
 
   line-does : (n place : ℕ) (s : State) (x : Stop) (T : Tree Row (Ended Row)) → x ≡ stopAt s (byRows S T (s .deal))
-      → stopAt s (byRows S (orStop n (done (record { number = n; place = place; spent = s .spent; registers = s .registers })) T) (s .deal)) ≡ orElse n place s x
+      → stopAt s (byRows S (given n T (done (record { number = n; place = place; spent = s .spent; registers = s .registers }))) (s .deal))
+      ≡ given n x (record { number = n; place = place; state = s })
   unfolding byRows
   line-does zero place s x T e = sym e
   line-does (suc n) place s x T e = simp append-nil
 
   pub run-line : (u : Supply) (input : List Row) (end : ℕ) (x : Line) (xs : List Line) (s : State)
       → runLines S u input end (x ∷ xs) s
-      ≡ orElse (check u (cost (S .l) (x .command)) (s .spent)) (x .place) s (runLines S u input end xs (finish S input (x .command) s))
-  unfolding runLines overLines finish perform
+      ≡ (let number = check u (cost (S .l) (x .command)) (s .spent) in
+      given number (runLines S u input end xs (finish S input (x .command) s)) (record { number = number; place = x .place; state = s }))
+  unfolding runLines throughLines finish perform
   run-line u input end x xs s =
-      let v = byRows S (rowCommand S input (s .spent .inputs) (x .command) (s .registers) done) (s .deal) in
+      let v = byRows S (rowCommand S input (s .spent .counts .inputs) (x .command) (s .registers) done) (s .deal) in
       line-does (check u (cost (S .l) (x .command)) (s .spent)) (x .place) s _ _
       (stop-after s (pay (cost (S .l) (x .command)) (s .spent)) v _
-      ∙ ap (stopAt s) (sym (command-does input (s .spent .inputs) (x .command) (s .registers) _ (s .deal))))
+      ∙ ap (stopAt s) (sym (command-does S input (s .spent .counts .inputs) (x .command) (s .registers) _ (s .deal))))
 
 -- the closed statements of specs/Parts
 pub every-step : EveryStep

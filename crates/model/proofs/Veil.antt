@@ -15,7 +15,8 @@ use Rattle.model.specs.Trees.{Tree}
 use Rattle.model.specs.Trees as Trees
 use Rattle.model.specs.Steps.{rowOps}
 use Rattle.model.specs.Script.{Line}
-use Rattle.model.specs.Costs.{Cost, modTriples}
+use Rattle.model.specs.Counts.{Counts}
+use Rattle.model.specs.Costs.{modTriples}
 use Rattle.model.specs.Checks.{Supply, pay}
 use Rattle.model.specs.Commands.{Ended}
 use Rattle.model.specs.Sheet.{dealRows}
@@ -30,7 +31,7 @@ use Rattle.model.proofs.Courses.{TreeCourse, lines-course}
 use Rattle.model.proofs.Running.{ran}
 use Rattle.model.proofs.Held.{Formed}
 use Rattle.model.proofs.Acceptance.{InRange}
-use Rattle.model.proofs.Pairs.{Paired, PairedEnds, paired-comparison, paired-remainder, paired-lines}
+use Rattle.model.proofs.Pairs.{Paired, Ends, PairedEnds, paired-comparison, paired-remainder, paired-lines}
 use Rattle.model.proofs.Agreeing.{agree-refl, alike-sym, alike-append, alike-each, each-alike, agree-keep}
 use Rattle.model.proofs.Partners.{SameOpened, whole-space, all-linked}
 use Rattle.model.proofs.Image.{mapped, Image, image}
@@ -60,7 +61,7 @@ module _ (S : Setting) {K : ℕ} (F : Field (S .p) (S .l) K) (P : Parties (S .n)
   abbrev tree : List Row → Tree Row (Ended Row)
   tree input = rowLines S u input end xs nothingSpent (replicate 64 noRow)
 
-  abbrev spends : (Cost → ℕ) → ℕ
+  abbrev spends : (Counts → ℕ) → ℕ
   spends f = tally (modTriples (S .l)) u f xs nothingSpent
 
   Z : Shared S 0 noRow
@@ -77,12 +78,12 @@ module _ (S : Setting) {K : ℕ} (F : Field (S .p) (S .l) K) (P : Parties (S .n)
   enough-masks : spends (λ c. c .masks) ≤ u .masks
   unfolding nothingSpent pay
   enough-masks =
-      omega (arith, tally-fits (modTriples (S .l)) u (λ c. c .masks) (λ s. s .masks) (u .masks) (λ c s. refl) (λ c s e. check-passed u c s e .masks) xs nothingSpent (omega arith))
+      omega (arith, tally-fits (modTriples (S .l)) u (λ c. c .masks) (u .masks) (λ x y. refl) (λ c s e. check-passed u c s e .masks) xs nothingSpent (omega arith))
 
   enough-triples : spends (λ c. c .triples) ≤ u .triples
   unfolding nothingSpent pay
   enough-triples =
-      omega (arith, tally-fits (modTriples (S .l)) u (λ c. c .triples) (λ s. s .triples) (u .triples) (λ c s. refl) (λ c s e. check-passed u c s e .triples) xs nothingSpent (omega arith))
+      omega (arith, tally-fits (modTriples (S .l)) u (λ c. c .triples) (u .triples) (λ x y. refl) (λ c s e. check-passed u c s e .triples) xs nothingSpent (omega arith))
 
   -- what a run reveals does not depend on the deal
   shows : {input : List Row} (I : All (Sharing (S .p) (S .n) (S .t)) input) (d : Deal) → Formed S u d
@@ -94,7 +95,7 @@ module _ (S : Setting) {K : ℕ} (F : Field (S .p) (S .l) K) (P : Parties (S .n)
 
   module _ {set : List ℕ} (G : Group (S .n) (S .t) set) where
     -- the trees of two inputs that agree in the set's columns are in pairs
-    pairs : (input input′ : List Row) → Alike set input input′ → Paired (Agree set) (PairedEnds (Agree set)) (tree input) (tree input′)
+    pairs : (input input′ : List Row) → Alike set input input′ → Paired (Agree set) (Ends (PairedEnds (Agree set))) (tree input) (tree input′)
     pairs input input′ al =
         let K = agree-keep S G in
         paired-lines (S .p) K (agree-refl noRow) (Trees.remainder (S .p) (rowOps S)) (Trees.remainder (S .p) (rowOps S)) (paired-remainder (S .p) K (paired-comparison (S .p) K)) (modTriples (S .l)) u (alike-each al) end xs nothingSpent

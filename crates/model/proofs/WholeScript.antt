@@ -1,47 +1,43 @@
--- A script is read to its end, whatever its length: each command takes a byte at least, and at the script's end nothing more is read.
+-- A script is read to its end, whatever its length: each command takes a byte at least, and at the script's end nothing more is read. So from a place
+-- on it is what stands there, and the script from the next place on.
 -- Assumes nothing.
-use mathlib.Core.Path.{_≡_, ap, _∙_}
-use mathlib.Core.Bool.{Bool, true, _&&_}
-use mathlib.Core.List.{List, [], _∷_}
-use Prim.Native.Nat.{ℕ, zero, suc, _+_, _≤_, _<_}
+use mathlib.Core.Path.{_≡_, refl, ap, _∙_}
+use mathlib.Core.List.{List}
+use Prim.Native.Nat.{ℕ, zero, suc, _+_, _-_, _<_}
 use native.Mathlib.Omega.{arith}
-use borrow.Author.Tests.{le-leb}
-use lib.Dec.{T, leb, leb→le}
-use lib.ListN.{length, getD}
-use Rattle.algebra.proofs.Tests.{and-left, and-right}
-use Rattle.model.specs.Script.{sizes, sizeAt, numberAt, scriptStep, scriptFrom, scriptOf, WholeScript}
+use lib.ListN.{length}
+use Rattle.model.specs.Script.{Command, Script, sizeAt, Reading, says, readingAt, withLine, scriptStep, scriptFrom, scriptOf, WholeScript}
+use Rattle.model.proofs.Readings.{size-some, missing, read}
 
--- a command takes a byte at least
-noZero : List ℕ → Bool
-noZero [] = true
-noZero (x ∷ xs) = leb 1 x && noZero xs
-
-least : (xs : List ℕ) → T (noZero xs) → (k : ℕ) → 1 ≤ getD xs k 1
-unfolding noZero
-least [] t k = omega arith
-least (x ∷ xs) t zero = leb→le 1 x (and-left (leb 1 x) _ t)
-least (x ∷ xs) t (suc k) = least xs (and-right (leb 1 x) _ t) k
-
-pub size-some : (s : List ℕ) (i : ℕ) → 1 ≤ sizeAt s i
-unfolding sizeAt noZero
-size-some s i = least sizes tt (getD s i 0)
-
-module _ (p K : ℕ) (s : List ℕ) where
-  at-end : (i : ℕ) → length s ≤ i → numberAt p K s i ≡ 10
-  unfolding numberAt
-  at-end i h = rw (le-leb (length s) i h)
-
-  one-more : (most i : ℕ) → length s < i + most → scriptFrom (suc most) p K s i ≡ scriptFrom most p K s i
-  unfolding scriptFrom
-  one-more zero i h = rw (at-end i (omega arith))
-  one-more (suc most) i h =
-      ap (scriptStep (numberAt p K s i) s i) (one-more most (i + sizeAt s i) (omega (arith, size-some s i)))
-
-  enough : (more : ℕ) → scriptFrom (more + suc (length s)) p K s 0 ≡ scriptFrom (suc (length s)) p K s 0
-  enough zero = ap (λ (most : ℕ). scriptFrom most p K s 0) (omega arith)
-  enough (suc more) =
-      ap (λ (most : ℕ). scriptFrom most p K s 0) (omega arith) ∙ one-more (more + suc (length s)) 0 (omega arith) ∙ enough more
+-- any two numbers of commands that reach past the script's end give the same
+pub enough : (p K : ℕ) (s : List ℕ) (f g i : ℕ) → length s < i + f → length s < i + g → scriptFrom f p K s i ≡ scriptFrom g p K s i
+unfolding scriptFrom
+enough p K s zero zero i a b = refl
+enough p K s zero (suc g) i a b = rw (missing p K s i (omega arith))
+enough p K s (suc f) zero i a b = rw (missing p K s i (omega arith))
+enough p K s (suc f) (suc g) i a b =
+    ap (scriptStep (readingAt p K s i) (length s) i)
+    (enough p K s f g (i + sizeAt s i) (omega (arith, size-some s i)) (omega (arith, size-some s i)))
 
 pub whole-script : WholeScript
 unfolding scriptOf
-whole-script p K more s = enough p K s more
+whole-script p K more s = enough p K s (more + suc (length s)) (suc (length s)) 0 (omega arith) (omega arith)
+
+module _ (p K : ℕ) (s : List ℕ) where
+  -- the script from place i on
+  abbrev pub from : ℕ → Script
+  from i = scriptFrom (suc (length s)) p K s i
+
+  pub at-reading : (i : ℕ) {r : Reading} → readingAt p K s i ≡ r → from i ≡ scriptStep r (length s) i (from (i + sizeAt s i))
+  unfolding scriptFrom
+  at-reading i e =
+      rw (← e)
+      (ap (scriptStep (readingAt p K s i) (length s) i) (enough p K s (length s) (suc (length s)) (i + sizeAt s i) (omega (arith, size-some s i)) (omega (arith, size-some s i))))
+
+  -- at a command the place after it is nearer to the end
+  module _ (i : ℕ) {c : Command} {next : ℕ} (e : readingAt p K s i ≡ says c next) where
+    pub from-next : from i ≡ withLine (record { place = i; command = c }) (from next)
+    from-next = at-reading i e ∙ rw (← read p K s i (says c next) e .next-is)
+
+    pub nearer : length s - next < length s - i
+    nearer = let R = read p K s i (says c next) e in omega (arith, size-some s i, R .next-is, R .whole)

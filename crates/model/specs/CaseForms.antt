@@ -11,6 +11,7 @@ use Rattle.algebra.specs.Lists.{sameList}
 use Rattle.model.specs.Entries.{shareNumber, shareLeft, recoverNumber, recoverValue, recoverLeft, encodeNumber, encodeValue, decodeNumber, decodeValue}
 use Rattle.model.specs.Steps.{Row}
 use Rattle.model.specs.Sheet.{shareBytes}
+use Rattle.model.specs.Counts.{listed}
 use Rattle.model.specs.Run.{Outcome, run}
 
 -- a register that is set, its number before its cells; one that is unset is left out where its cells are 0
@@ -27,8 +28,7 @@ registersSeen r (mark ∷ marks) (x ∷ rows) = oneSeen r mark x ++ registersSee
 -- registers
 unfoldable pub seen : Outcome → List (List ℕ)
 seen x =
-    (x .number ∷ x .place ∷ x .inputs ∷ x .masks ∷ x .triples ∷ x .openings ∷ x .values ∷ []) ∷ x .log ∷ x .revealed
-    ∷ registersSeen 0 (x .marks) (x .registers)
+    (x .number ∷ x .place ∷ listed (x .counts)) ∷ x .log ∷ x .revealed ∷ registersSeen 0 (x .marks) (x .registers)
 
 -- a run, and what the reference answers that it leaves
 pub record Case : Type 0 where

@@ -4,6 +4,7 @@ use mathlib.Core.Path.{_≡_}
 use mathlib.Core.Bool.{Bool, true, false}
 use mathlib.Core.List.{List, [], _∷_}
 use Prim.Native.Nat.{ℕ}
+use Rattle.model.specs.Counts.{noCounts}
 use Rattle.model.specs.Costs.{Cost}
 use Rattle.model.specs.Run.{check}
 use Rattle.model.specs.CaseForms.{Hold, EntriesHold}
@@ -16,13 +17,13 @@ use Rattle.model.specs.EntryCases.{entryCases}
 -- "Tried before a command changes anything, in this order": 21 to 26. No command takes both an input row and a mask, so no sheet shows where 22
 -- stands in the order. Here a command reads register 0 and takes one of everything.
 abbrev pub taking : Cost
-taking = record { reads = 0 ∷ []; writes = []; inputs = 1; masks = 1; triples = 1; openings = 1; revealed = 1 }
+taking = record { reads = 0 ∷ []; writes = []; counts = record { inputs = 1; masks = 1; triples = 1; openings = 1; revealed = 1 } }
 
 -- its number with three parties, register 0 being set or not, and so many input rows, masks and triples, and room in record and revealed list
 abbrev pub checked : Bool → ℕ → ℕ → ℕ → ℕ → ℕ → ℕ
 checked mark inputs masks triples log shown =
     check (record { inputs = inputs; masks = masks; triples = triples; parties = 3; log = log; shown = shown }) taking
-    (record { inputs = 0; masks = 0; triples = 0; openings = 0; revealed = 0; marks = mark ∷ [] })
+    (record { counts = noCounts; marks = mark ∷ [] })
 
 -- each number before all those after it; then 0, where nothing is missing; then 21 to 25 alone
 unfoldable pub checks : List ℕ

@@ -3,19 +3,16 @@
 -- Assumes nothing.
 use mathlib.Core.Bool.{Bool, true, false, _&&_}
 use mathlib.Core.List.{List, [], _∷_}
-use Prim.Native.Nat.{ℕ, _+_, _*_}
+use Prim.Native.Nat.{ℕ, _*_}
 use lib.Dec.{leb}
 use lib.ListN.{getD, set}
-use Rattle.model.specs.Refusing.{tried}
+use Rattle.model.specs.Refusing.{firstFailed}
+use Rattle.model.specs.Counts.{Counts, added}
 use Rattle.model.specs.Costs.{Cost}
 
 -- What was spent and which registers are set: all that the checks look at.
 pub record Spent : Type 0 where
-  pub inputs : ℕ
-  pub masks : ℕ
-  pub triples : ℕ
-  pub openings : ℕ
-  pub revealed : ℕ
+  pub counts : Counts
   pub marks : List Bool
 
 -- What there is: the header's counts, the parties, and the lengths of the two output buffers.
@@ -37,30 +34,24 @@ unfoldable pub marked : List Bool → List ℕ → List Bool
 marked marks [] = marks
 marked marks (d ∷ ds) = marked (set marks d true) ds
 
--- "Tried before a command changes anything, in this order": 21 to 26, or 0. A test is of what must hold, and its number is the refusal's.
+-- "Tried before a command changes anything, in this order": 21 to 26, or 0
 unfoldable pub check : Supply → Cost → Spent → ℕ
 check u c s =
+    let then = added (s .counts) (c .counts) in
+    firstFailed
     -- "21: a register read is unset"
-    tried (allSet (s .marks) (c .reads)) 21
+    ((allSet (s .marks) (c .reads), 21)
     -- "22: no input row left"
-    (tried (leb (s .inputs + c .inputs) (u .inputs)) 22
+    ∷ (leb (then .inputs) (u .inputs), 22)
     -- "23: no mask left"
-    (tried (leb (s .masks + c .masks) (u .masks)) 23
+    ∷ (leb (then .masks) (u .masks), 23)
     -- "24: fewer triples left than the command takes"
-    (tried (leb (s .triples + c .triples) (u .triples)) 24
+    ∷ (leb (then .triples) (u .triples), 24)
     -- "25: the record buffer cannot take all its shares"
-    (tried (leb ((s .openings + c .openings) * u .parties) (u .log)) 25
+    ∷ (leb (then .openings * u .parties) (u .log), 25)
     -- "26: the revealed buffer is full"
-    (tried (leb (s .revealed + c .revealed) (u .shown)) 26 0)))))
+    ∷ (leb (then .revealed) (u .shown), 26) ∷ [])
 
 -- "Inputs counts the finished LOADs; masks, triples and openings are the sums of what is spent over the finished commands."
 unfoldable pub pay : Cost → Spent → Spent
-pay c s =
-    record {
-      inputs = s .inputs + c .inputs;
-      masks = s .masks + c .masks;
-      triples = s .triples + c .triples;
-      openings = s .openings + c .openings;
-      revealed = s .revealed + c .revealed;
-      marks = marked (s .marks) (c .writes);
-    }
+pay c s = record { counts = added (s .counts) (c .counts); marks = marked (s .marks) (c .writes) }

@@ -7,7 +7,7 @@ use Prim.Native.Nat.{ℕ, suc, _-_, _/_, _%_, _^_, _≤_, _<_}
 use lib.Dec.{T, leb}
 use lib.IntN.{ℤ, pos, negsuc, negℤ, _+ℤ_, _-ℤ_, _*ℤ_}
 use lib.Signed.{leZ, ltZ}
-use Rattle.model.specs.Fields.{modulus, largestK}
+use Rattle.model.specs.Fields.{modulus, largestK, InUse}
 
 -- "A signed number a from −2^(k−1) to 2^(k−1) − 1"
 unfoldable pub inRange : ℕ → ℤ → Bool
@@ -39,6 +39,6 @@ pub record Codes (p K : ℕ) : Type 0 where
   pub reading-undoes : (k : ℕ) (a : ℤ) → 2 ≤ k → k ≤ K → T (inRange k a) → readBack p (code p a) ≡ a
   pub coding-undoes : (v : ℕ) → v < p → code p (readBack p v) ≡ v
 
--- for every field of the table
+-- for every field in use
 abbrev pub EveryCoding : Type 0
-EveryCoding = (f : ℕ) → f < 4 → Codes (modulus f) (largestK f)
+EveryCoding = (f : ℕ) → InUse f → Codes (modulus f) (largestK f)

@@ -4,8 +4,9 @@
 use mathlib.Core.List.{List, [], _∷_}
 use Prim.Native.Nat.{ℕ, zero, suc}
 use lib.ListN.{getD, set}
-use Rattle.model.specs.Script.{Command, END, LOAD, CONST, ADD, SUB, SCALE, MUL, MOD, TRUNC, LTZ, OVER, BLOCKS, REVEAL, BITLT, Line}
+use Rattle.model.specs.Script.{Command, LOAD, CONST, ADD, SUB, SCALE, MUL, MOD, TRUNC, LTZ, OVER, BLOCKS, REVEAL, BITLT, Line}
 use Rattle.model.specs.Trees.{Ops, Tree, done, multiply, reveal, Remainder, RemainderBy, comparison, floor, sign, over, blocks}
+use Rattle.model.specs.Refusing.{given}
 use Rattle.model.specs.Costs.{costBy}
 use Rattle.model.specs.Checks.{Spent, Supply, check, pay}
 
@@ -16,23 +17,18 @@ pub record Ended (Operand : Type 0) : Type 0 where
   pub spent : Spent
   pub registers : List Operand
 
--- go on where the number is 0, else stop
-abbrev pub orStop : {A : Type 0} → ℕ → A → A → A
-orStop zero stop go = go
-orStop (suc number) stop go = stop
-
 -- "Each command gets exactly what the one before it left; a refused one ends the run." "Earlier commands stand. The refused command changes no
 -- cell, count or buffer, and its offset is the place. Otherwise the answer is 0 at END's offset." The lines xs, from what was spent (s) and the registers
 -- (g); u is what there is, and `end` END's offset. `stop` says what an end gives, and `act` what a command gives, from the number of input rows loaded
 -- before it, the command, the registers, and what is given for those that it leaves. `triples` is how many triples MOD takes for m.
-unfoldable pub overLines : {Operand R : Type 0} → (Ended Operand → R) → (ℕ → Command → List Operand → (List Operand → R) → R) → (ℕ → ℕ) → Supply → ℕ
+unfoldable pub throughLines : {Operand R : Type 0} → (Ended Operand → R) → (ℕ → Command → List Operand → (List Operand → R) → R) → (ℕ → ℕ) → Supply → ℕ
     → List Line → Spent → List Operand → R
-overLines stop act triples u end [] s g = stop (record { number = 0; place = end; spent = s; registers = g })
-overLines stop act triples u end (x ∷ xs) s g =
+throughLines stop act triples u end [] s g = stop (record { number = 0; place = end; spent = s; registers = g })
+throughLines stop act triples u end (x ∷ xs) s g =
     let c = costBy triples (x .command) in
     let number = check u c s in
-    orStop number (stop (record { number = number; place = x .place; spent = s; registers = g }))
-    (act (s .inputs) (x .command) g (overLines stop act triples u end xs (pay c s)))
+    given number (act (s .counts .inputs) (x .command) g (throughLines stop act triples u end xs (pay c s)))
+    (stop (record { number = number; place = x .place; spent = s; registers = g }))
 
 -- Registers b to b + w - 1 of g. `unset` is the operand of an unset register: "the cells of an unset register are 0". It also stands in where there is no
 -- such register or input row, which ranges and checks shut out.
@@ -50,7 +46,6 @@ module _ (p : ℕ) {Operand : Type 0} (O : Ops Operand) (unset : Operand) where
     -- A command on the registers g, where j input rows were loaded before it, goes on with the registers that it leaves. "All operands are read before
     -- d is written, so d may be one of them."
     unfoldable pub command : List Operand → ℕ → Command → List Operand → (List Operand → Tree Operand A) → Tree Operand A
-    command input j END g go = go g
     command input j (LOAD d) g go = go (set g d (getD input j unset))
     command input j (CONST d v) g go = go (set g d (O .constant v))
     command input j (ADD d a b) g go = go (set g d (O .plus (getD g a unset) (getD g b unset)))
@@ -67,4 +62,4 @@ module _ (p : ℕ) {Operand : Type 0} (O : Ops Operand) (unset : Operand) where
 
   abbrev pub lines : RemainderBy Operand (Ended Operand) → (ℕ → ℕ) → Supply → List Operand → ℕ → List Line → Spent → List Operand
       → Tree Operand (Ended Operand)
-  lines remainder triples u input end xs s g = overLines done (command remainder input) triples u end xs s g
+  lines remainder triples u input end xs s g = throughLines done (command remainder input) triples u end xs s g

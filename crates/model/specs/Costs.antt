@@ -3,35 +3,37 @@
 use mathlib.Core.List.{List, [], _∷_}
 use Prim.Native.Nat.{ℕ, _+_, _-_, _*_}
 use Rattle.algebra.specs.Lists.{from}
-use Rattle.model.specs.Script.{Command, END, LOAD, CONST, ADD, SUB, SCALE, MUL, MOD, TRUNC, LTZ, OVER, BLOCKS, REVEAL, BITLT}
+use Rattle.model.specs.Counts.{Counts, noCounts}
+use Rattle.model.specs.Script.{Command, LOAD, CONST, ADD, SUB, SCALE, MUL, MOD, TRUNC, LTZ, OVER, BLOCKS, REVEAL, BITLT}
 
--- The registers that a command reads and writes, and how many input rows, masks, triples, openings and revealed values it spends.
+-- The registers that a command reads and writes, and what it spends.
 pub record Cost : Type 0 where
   pub reads : List ℕ
   pub writes : List ℕ
-  pub inputs : ℕ
-  pub masks : ℕ
-  pub triples : ℕ
-  pub openings : ℕ
-  pub revealed : ℕ
+  pub counts : Counts
 
--- a command that spends nothing, and one that spends triples, two openings each
+-- so many triples, two openings each; and a mask before them, with one opening
+abbrev pub ofTriples : ℕ → Counts
+ofTriples n = record { inputs = 0; masks = 0; triples = n; openings = 2 * n; revealed = 0 }
+
+abbrev pub ofMask : ℕ → Counts
+ofMask n = record { inputs = 0; masks = 1; triples = n; openings = 1 + 2 * n; revealed = 0 }
+
+-- a command that spends nothing, one that spends triples, and one that spends a mask and triples
 abbrev pub free : List ℕ → List ℕ → Cost
-free rs ds = record { reads = rs; writes = ds; inputs = 0; masks = 0; triples = 0; openings = 0; revealed = 0 }
+free rs ds = record { reads = rs; writes = ds; counts = noCounts }
 
 abbrev pub spending : List ℕ → ℕ → ℕ → Cost
-spending rs d n = record { reads = rs; writes = d ∷ []; inputs = 0; masks = 0; triples = n; openings = 2 * n; revealed = 0 }
+spending rs d n = record { reads = rs; writes = d ∷ []; counts = ofTriples n }
 
--- a command that spends a mask and so many triples, with their openings
 abbrev pub masking : ℕ → ℕ → ℕ → Cost
-masking d a n = record { reads = a ∷ []; writes = d ∷ []; inputs = 0; masks = 1; triples = n; openings = 1 + 2 * n; revealed = 0 }
+masking d a n = record { reads = a ∷ []; writes = d ∷ []; counts = ofMask n }
 
--- The sentences after the paper's "Spent:", each over its commands; they name none of END, CONST, ADD, SUB and SCALE. `triples` is how many triples
+-- The sentences after the paper's "Spent:", each over its commands; they name none of CONST, ADD, SUB and SCALE. `triples` is how many triples
 -- MOD takes for m.
 unfoldable pub costBy : (ℕ → ℕ) → Command → Cost
-costBy triples END = free [] []
 -- "Inputs counts the finished LOADs"
-costBy triples (LOAD d) = record { reads = []; writes = d ∷ []; inputs = 1; masks = 0; triples = 0; openings = 0; revealed = 0 }
+costBy triples (LOAD d) = record { reads = []; writes = d ∷ []; counts = record { inputs = 1; masks = 0; triples = 0; openings = 0; revealed = 0 } }
 -- nothing is spent
 costBy triples (CONST d v) = free [] (d ∷ [])
 costBy triples (ADD d a b) = free (a ∷ b ∷ []) (d ∷ [])
@@ -48,7 +50,7 @@ costBy triples (BLOCKS d a k m) = masking d a (triples m)
 costBy triples (LTZ d a k) = masking d a (triples (k - 1))
 costBy triples (OVER d a k v) = masking d a (triples (k - 1))
 -- "REVEAL one opening, and its value goes to the revealed list."
-costBy triples (REVEAL a) = record { reads = a ∷ []; writes = []; inputs = 0; masks = 0; triples = 0; openings = 1; revealed = 1 }
+costBy triples (REVEAL a) = record { reads = a ∷ []; writes = []; counts = record { inputs = 0; masks = 0; triples = 0; openings = 1; revealed = 1 } }
 
 -- "ℓ + 2m − 2 triples"; l is the paper's ℓ
 abbrev pub modTriples : ℕ → ℕ → ℕ

@@ -10,13 +10,13 @@ use mathlib.Core.List.{List, [], _∷_, _++_}
 use Prim.Native.Nat.{ℕ, _+_, _*_}
 use lib.ListN.{length, getD, drop, replicate}
 use Rattle.algebra.specs.Lists.{All}
-use Rattle.model.specs.Fields.{largestK}
 use Rattle.model.specs.Sharing.{Sharing, secret}
 use Rattle.model.specs.Deal.{Setting, Row, Deal, noRow}
 use Rattle.model.specs.Steps.{written}
 use Rattle.model.specs.Script.{Line, accepted}
-use Rattle.model.specs.Costs.{Cost, cost}
-use Rattle.model.specs.Sheet.{headerOf, settingOf, inputIn, dealIn, secrets, sheetNumber}
+use Rattle.model.specs.Counts.{Counts, noCounts, added}
+use Rattle.model.specs.Costs.{cost}
+use Rattle.model.specs.Sheet.{headerOf, largestIn, settingOf, inputIn, dealIn, secrets, sheetNumber}
 use Rattle.model.specs.Run.{Supply, State, Stop, check, finish, start, supplyOf, sheetScript, stopOf, run}
 use Rattle.model.specs.Plain.{plainly, reveals}
 use Rattle.model.specs.Results.{Does}
@@ -34,7 +34,7 @@ pub data Passes (S : Setting) (u : Supply) (input : List Row) (d : Deal) (xs : L
   begins : Passes S u input d xs xs (start d) (replicate 64 0) []
   goes : {x : Line} {ys : List Line} {s : State} {vs ws : List ℕ} → Passes S u input d xs (x ∷ ys) s vs ws
       → check u (cost (S .l) (x .command)) (s .spent) ≡ 0
-      → Passes S u input d xs ys (finish S input (x .command) s) (plainly (S .p) (secrets S input) (s .spent .inputs) (x .command) vs)
+      → Passes S u input d xs ys (finish S input (x .command) s) (plainly (S .p) (secrets S input) (s .spent .counts .inputs) (x .command) vs)
       (ws ++ reveals (x .command) vs)
 
 -- "After each command the shared secret equals": every set register is a sharing, and its secret is the plain interpreter's value. "the cells
@@ -50,27 +50,29 @@ pub record Right (S : Setting) (s : State) (vs ws : List ℕ) : Type 0 where
   pub opened : All (Sharing (S .p) (S .n) (S .t)) (s .opened)
   pub shown : s .shown ≡ ws
 
--- the sum of what finished commands spend of one kind
-unfoldable pub sumOf : ℕ → (Cost → ℕ) → List Line → ℕ
-sumOf l f [] = 0
-sumOf l f (x ∷ xs) = f (cost l (x .command)) + sumOf l f xs
+-- "Inputs counts the finished LOADs": a LOAD costs an input, and no other command does
+unfoldable pub loads : ℕ → List Line → ℕ
+loads l [] = 0
+loads l (x ∷ xs) = cost l (x .command) .counts .inputs + loads l xs
+
+-- the sum of what finished commands spend
+unfoldable pub sumOf : ℕ → List Line → Counts
+sumOf l [] = noCounts
+sumOf l (x ∷ xs) = added (cost l (x .command) .counts) (sumOf l xs)
 
 -- "Deal spent and openings made equal the paper's counts": the commands finished so far, and that the counts are the sums of what they spend.
 -- "A deal item is never used again": so much is gone from the front of the deal. And the record has n numbers for each opening.
 pub record Counted (S : Setting) (d : Deal) (xs ys : List Line) (s : State) : Type 0 where
   pub done : List Line
   pub split : xs ≡ done ++ ys
-  pub inputs : s .spent .inputs ≡ sumOf (S .l) (λ c. c .inputs) done
-  pub masks : s .spent .masks ≡ sumOf (S .l) (λ c. c .masks) done
-  pub triples : s .spent .triples ≡ sumOf (S .l) (λ c. c .triples) done
-  pub openings : s .spent .openings ≡ sumOf (S .l) (λ c. c .openings) done
-  pub revealed : s .spent .revealed ≡ sumOf (S .l) (λ c. c .revealed) done
-  pub balance : s .spent .openings ≡ s .spent .masks + 2 * s .spent .triples + s .spent .revealed
-  pub masks-left : s .deal .masks ≡ drop (s .spent .masks) (d .masks)
-  pub triples-left : s .deal .triples ≡ drop (s .spent .triples) (d .triples)
-  pub opened : length (s .opened) ≡ s .spent .openings
-  pub numbers : length (written (S .n) (s .opened)) ≡ S .n * s .spent .openings
-  pub shown : length (s .shown) ≡ s .spent .revealed
+  pub counts : s .spent .counts ≡ sumOf (S .l) done
+  pub inputs : s .spent .counts .inputs ≡ loads (S .l) done
+  pub balance : s .spent .counts .openings ≡ s .spent .counts .masks + 2 * s .spent .counts .triples + s .spent .counts .revealed
+  pub masks-left : s .deal .masks ≡ drop (s .spent .counts .masks) (d .masks)
+  pub triples-left : s .deal .triples ≡ drop (s .spent .counts .triples) (d .triples)
+  pub opened : length (s .opened) ≡ s .spent .counts .openings
+  pub numbers : length (written (S .n) (s .opened)) ≡ S .n * s .spent .counts .openings
+  pub shown : length (s .shown) ≡ s .spent .counts .revealed
 
 -- How a run stops: at a line whose command the checks refuse, "and its offset is the place. Otherwise the answer is 0 at END's offset."
 pub data Stops (S : Setting) (u : Supply) (end : ℕ) (x : Stop) : List Line → Type 0 where
@@ -101,12 +103,12 @@ abbrev pub Exactness : Type 0
 Exactness =
     (sheet : List ℕ) (log shown : ℕ) (a : Accepted sheet)
     → let h = headerOf sheet in
-    Exactly (settingOf h) (largestK (h .field)) (supplyOf h log shown) (inputIn h sheet) (dealIn h sheet) (a .lines) (a .end) (stopOf sheet log shown)
+    Exactly (settingOf h) (largestIn h) (supplyOf h log shown) (inputIn h sheet) (dealIn h sheet) (a .lines) (a .end) (stopOf sheet log shown)
 
 -- Each mask opens one row, each triple two, and each REVEAL one: so the counts of every answer, also of a refused input, give the number of
 -- revealed values.
 abbrev pub Balance : Type 0
 Balance =
     (sheet log revealed : List ℕ)
-    → let o = run sheet log revealed in
-    o .openings ≡ o .masks + 2 * o .triples + o .values
+    → let o = run sheet log revealed .counts in
+    o .openings ≡ o .masks + 2 * o .triples + o .revealed

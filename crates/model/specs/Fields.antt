@@ -1,11 +1,11 @@
--- The paper, "Fields and parties": the four fields, and who may share with which threshold.
+-- The paper, "Fields and parties": the four fields, which of them are in use, and who may share with which threshold; the refusals 2 and 3.
 -- Assumes nothing.
 use mathlib.Core.Path.{_≡_}
 use mathlib.Core.Logic.{_↔_}
-use mathlib.Core.Bool.{Bool, _&&_}
-use mathlib.Core.List.{[], _∷_}
+use mathlib.Core.Bool.{Bool, false, _&&_, _||_}
+use mathlib.Core.List.{List, [], _∷_, _++_}
 use Prim.Native.Nat.{ℕ, zero, suc, _+_, _-_, _*_, _/_, _%_, _^_, _≤_, _<_}
-use lib.Dec.{T, leb}
+use lib.Dec.{T, leb, eqb}
 use lib.ListN.{getD}
 use Rattle.algebra.specs.Ring.{mul}
 
@@ -18,6 +18,25 @@ bits f = getD (4 ∷ 8 ∷ 16 ∷ 31 ∷ []) f 0
 
 unfoldable pub largestK : ℕ → ℕ
 largestK f = getD (3 ∷ 7 ∷ 15 ∷ 30 ∷ []) f 0
+
+-- The numbers of the fields in use. What is claimed of fields is claimed of these.
+abbrev pub fieldsInUse : List ℕ
+fieldsInUse = 0 ∷ 1 ∷ 2 ∷ 3 ∷ []
+
+-- a number stands in a list
+abbrev pub among : ℕ → List ℕ → Bool
+among x [] = false
+among x (y ∷ ys) = eqb x y || among x ys
+
+unfoldable pub inUse : ℕ → Bool
+inUse f = among f fieldsInUse
+
+abbrev pub InUse : ℕ → Type 0
+InUse f = T (inUse f)
+
+-- the test is exact: "2: field over 3"
+abbrev pub FieldsTested : Type 0
+FieldsTested = (f : ℕ) → InUse f ↔ (f < 4)
 
 -- 1/d modulo p for d from 1 to 7, and 0 for 0: (1 + k p) / d with the k below d that leaves no remainder. (p^12 is 1 modulo d.)
 unfoldable pub inverse : ℕ → ℕ → ℕ
@@ -32,10 +51,10 @@ unfoldable pub inversePowerOf2 : ℕ → ℕ → ℕ
 inversePowerOf2 p zero = 1
 inversePowerOf2 p (suc m) = mul p ((p + 1) / 2) (inversePowerOf2 p m)
 
--- p is one of the table's moduli, with what arithmetic uses of it. Nothing asks that p is prime.
+-- p is the modulus of a field in use, with what arithmetic uses of it. Nothing asks that p is prime.
 pub record Modulus (p : ℕ) : Type 0 where
   pub number : ℕ
-  pub listed : number < 4
+  pub in-use : InUse number
   pub is : p ≡ modulus number
   pub above : 7 < p
   pub odd : p % 2 ≡ 1
@@ -67,7 +86,15 @@ parties n t = leb 3 n && leb n 7 && leb 1 t && leb (2 * t + 1) n
 abbrev pub PartiesTested : Type 0
 PartiesTested = (n t : ℕ) → T (parties n t) ↔ Parties n t
 
--- Every field of the table has the facts of `Field`, and there `inversePowerOf2` is the inverse of 2^m.
+-- Tests, each of what must hold, with the number of its refusal: "2: field over 3"
+unfoldable pub fieldTests : ℕ → List (Bool × ℕ)
+fieldTests f = (inUse f, 2) ∷ []
+
+-- and after it "3: n or t outside the ranges"
+unfoldable pub settingTests : ℕ → ℕ → ℕ → List (Bool × ℕ)
+settingTests f n t = fieldTests f ++ ((parties n t, 3) ∷ [])
+
+-- Every field in use has the facts of `Field`, and there `inversePowerOf2` is the inverse of 2^m.
 pub record EveryField : Type 0 where
-  pub field : (f : ℕ) → f < 4 → Field (modulus f) (bits f) (largestK f)
-  pub inverses : (f m : ℕ) → f < 4 → mul (modulus f) (powerOf2 (modulus f) m) (inversePowerOf2 (modulus f) m) ≡ 1
+  pub field : (f : ℕ) → InUse f → Field (modulus f) (bits f) (largestK f)
+  pub inverses : (f m : ℕ) → InUse f → mul (modulus f) (powerOf2 (modulus f) m) (inversePowerOf2 (modulus f) m) ≡ 1

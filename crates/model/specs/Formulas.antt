@@ -11,7 +11,7 @@ use lib.ListN.{length}
 use lib.Signed.{ltZ}
 use Rattle.algebra.specs.Ring.{sub}
 use Rattle.algebra.specs.Lists.{allBelow}
-use Rattle.model.specs.Fields.{modulus, largestK}
+use Rattle.model.specs.Fields.{modulus, largestK, InUse}
 use Rattle.model.specs.Coding.{inRange, readBack}
 use Rattle.model.specs.Sheet.{spell}
 use Rattle.model.specs.Plain.{less, rem, quot, negative, exceeds, charged}
@@ -82,6 +82,6 @@ pub record Exact (p K : ℕ) : Type 0 where
   pub charges : (k m a : ℕ) → 2 ≤ k → k ≤ K → 1 ≤ m → m < k → a < p → Charges p k m a (charged p k m a)
   pub compares : (v : ℕ) (bs : List ℕ) → 1 ≤ length bs → v < 2 ^ length bs → Compares p v bs (less p v bs)
 
--- for every field of the table
+-- for every field in use
 abbrev pub EveryFormula : Type 0
-EveryFormula = (f : ℕ) → f < 4 → Exact (modulus f) (largestK f)
+EveryFormula = (f : ℕ) → InUse f → Exact (modulus f) (largestK f)

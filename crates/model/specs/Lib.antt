@@ -9,6 +9,7 @@ pub mod Sheet
 pub mod Script
 pub mod Trees
 pub mod Steps
+pub mod Counts
 pub mod Costs
 pub mod Checks
 pub mod Commands

@@ -6,9 +6,8 @@ use Prim.Native.Nat.{ℕ, _^_, _<_}
 use lib.ListN.{length, getD}
 use Rattle.algebra.specs.Lists.{Below}
 use Rattle.algebra.specs.Rows.{row}
-use Rattle.model.specs.Fields.{bits}
 use Rattle.model.specs.Deal.{Row, Deal}
-use Rattle.model.specs.Sheet.{Header, headerOf, impliedLength, scriptIn, inputIn, dealIn, dealRows, sheetOf}
+use Rattle.model.specs.Sheet.{Header, headerOf, maskBits, impliedLength, scriptIn, inputIn, dealIn, dealRows, sheetOf}
 
 -- a row as a sheet has it: n shares of 32 bits, and 0 past them
 pub record SheetRow (n : ℕ) (x : Row) : Type 0 where
@@ -28,7 +27,7 @@ pub record Parts (h : Header) (script : List ℕ) (input : List Row) (d : Deal) 
   pub inputs-length : length input ≡ h .inputs
   pub masks-length : length (d .masks) ≡ h .masks
   pub triples-length : length (d .triples) ≡ h .triples
-  pub mask-lengths : (m : List Row) → In m (d .masks) → length m ≡ bits (h .field)
+  pub mask-lengths : (m : List Row) → In m (d .masks) → length m ≡ maskBits h
   pub rows : (x : Row) → In x (input ++ dealRows d) → SheetRow (h .n) x
 
 -- what the bytes s say, read: these parts, and no bytes more

@@ -11,9 +11,10 @@ use Rattle.model.specs.Deal.{Setting, Row, Deal, noRow}
 use Rattle.model.specs.Steps.{lessTriple, lessMask, plus, minus, constant, rowOps, value, nextTriple, nextMask, beaver, byRows, Step, rowRemainder}
 use Rattle.model.specs.Steps.{product, comparison, remainder, floor, sign, over, blocks, masked, unmasked, quotient}
 use Rattle.model.specs.Script.{Command, MUL, MOD, TRUNC, LTZ, OVER, BLOCKS, BITLT, Line}
+use Rattle.model.specs.Refusing.{given}
 use Rattle.model.specs.Costs.{cost}
 use Rattle.model.specs.Commands.{registersFrom}
-use Rattle.model.specs.Run.{Spent, Supply, State, register, check, perform, finish, orElse, runLines}
+use Rattle.model.specs.Run.{Spent, Supply, State, register, check, perform, finish, runLines}
 
 module _ (S : Setting) where
   -- "it opens C = X + r modulo p"
@@ -109,4 +110,5 @@ pub record RunByCommands : Type 0 where
       → runLines S u input end [] s ≡ record { number = 0; place = end; state = s }
   pub a-line : (S : Setting) (u : Supply) (input : List Row) (end : ℕ) (x : Line) (xs : List Line) (s : State)
       → runLines S u input end (x ∷ xs) s
-      ≡ orElse (check u (cost (S .l) (x .command)) (s .spent)) (x .place) s (runLines S u input end xs (finish S input (x .command) s))
+      ≡ (let number = check u (cost (S .l) (x .command)) (s .spent) in
+      given number (runLines S u input end xs (finish S input (x .command) s)) (record { number = number; place = x .place; state = s }))

@@ -1,13 +1,13 @@
 -- The paper, the table of commands and "Steps": the plain interpreter, what each command does to secrets by the paper's formulas.
 -- Assumes nothing.
 use mathlib.Core.Bool.{Bool, true, false, cond}
-use mathlib.Core.List.{List, [], _∷_}
+use mathlib.Core.List.{List, [], _∷_, map}
 use Prim.Native.Nat.{ℕ, zero, suc, _-_, _/_, _%_, _^_}
 use lib.ListN.{getD, set}
 use Rattle.algebra.specs.Ring.{add, sub, mul}
 use Rattle.model.specs.Fields.{inversePowerOf2}
 use Rattle.model.specs.Trees.{odd}
-use Rattle.model.specs.Script.{Command, END, LOAD, CONST, ADD, SUB, SCALE, MUL, MOD, TRUNC, LTZ, OVER, BLOCKS, REVEAL, BITLT}
+use Rattle.model.specs.Script.{Command, LOAD, CONST, ADD, SUB, SCALE, MUL, MOD, TRUNC, LTZ, OVER, BLOCKS, REVEAL, BITLT, outputs}
 
 -- BITLT on the values of registers. "If registers are not bits, this rule still says what comes out."
 -- "lt becomes bit i + lt − q where v's bit i is 0, else q"
@@ -51,10 +51,8 @@ valuesFrom vs b zero = []
 valuesFrom vs b (suc w) = getD vs b 0 ∷ valuesFrom vs (suc b) w
 
 -- The column "secret left in d" of the table of commands, on the values of the registers: of LOAD "next input row", where j were loaded before;
--- of CONST "v"; of ADD "a + b"; of SUB "a − b"; of SCALE "a times v"; of MUL "a times b"; of the others the formulas above. END and REVEAL leave
--- none.
+-- of CONST "v"; of ADD "a + b"; of SUB "a − b"; of SCALE "a times v"; of MUL "a times b"; of the others the formulas above. REVEAL leaves none.
 unfoldable pub plainly : ℕ → List ℕ → ℕ → Command → List ℕ → List ℕ
-plainly p input j END vs = vs
 plainly p input j (LOAD d) vs = set vs d (getD input j 0)
 plainly p input j (CONST d v) vs = set vs d v
 plainly p input j (ADD d a b) vs = set vs d (add p (getD vs a 0) (getD vs b 0))
@@ -71,17 +69,4 @@ plainly p input j (BITLT d b w v) vs = set vs d (less p v (valuesFrom vs b w))
 
 -- "REVEAL one opening, and its value goes to the revealed list": the values that a command puts there
 unfoldable pub reveals : Command → List ℕ → List ℕ
-reveals END vs = []
-reveals (LOAD d) vs = []
-reveals (CONST d v) vs = []
-reveals (ADD d a b) vs = []
-reveals (SUB d a b) vs = []
-reveals (SCALE d a v) vs = []
-reveals (MUL d a b) vs = []
-reveals (MOD d a k m) vs = []
-reveals (TRUNC d a k m) vs = []
-reveals (LTZ d a k) vs = []
-reveals (OVER d a k v) vs = []
-reveals (BLOCKS d a k m) vs = []
-reveals (REVEAL a) vs = getD vs a 0 ∷ []
-reveals (BITLT d b w v) vs = []
+reveals c vs = map (λ r. getD vs r 0) (outputs c .shown)

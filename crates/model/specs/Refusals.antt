@@ -50,11 +50,7 @@ pub record Untouched (log revealed : List ℕ) (x : Outcome) : Type 0 where
   pub revealed-kept : x .revealed ≡ revealed
   pub unset : x .marks ≡ replicate 64 false
   pub cells : x .registers ≡ replicate 64 noRow
-  pub inputs : x .inputs ≡ 0
-  pub masks : x .masks ≡ 0
-  pub triples : x .triples ≡ 0
-  pub openings : x .openings ≡ 0
-  pub values : x .values ≡ 0
+  pub counts : x .counts ≡ record { inputs = 0; masks = 0; triples = 0; openings = 0; revealed = 0 }
 
 -- for every sheet that is not accepted, and all buffers
 abbrev pub NothingRun : Type 0

@@ -14,7 +14,3 @@ firstFailed (test ∷ tests) = cond (test .0) (firstFailed tests) (test .1)
 abbrev pub given {ℓ} : {A : Type ℓ} → ℕ → A → A → A
 given zero done refused = done
 given (suc number) done refused = refused
-
--- the number of a test that fails, else that of the tests after it
-abbrev pub tried : Bool → ℕ → ℕ → ℕ
-tried passes number next = cond passes next number

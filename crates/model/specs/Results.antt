@@ -12,7 +12,7 @@ use Rattle.algebra.specs.Lists.{from}
 use Rattle.algebra.specs.Rows.{row}
 use Rattle.model.specs.Sharing.{secret}
 use Rattle.model.specs.Deal.{Setting, Row, noRow}
-use Rattle.model.specs.Script.{Command, END, LOAD, CONST, ADD, SUB, SCALE, MUL, MOD, TRUNC, LTZ, OVER, BLOCKS, REVEAL, BITLT, inRanges}
+use Rattle.model.specs.Script.{Command, LOAD, CONST, ADD, SUB, SCALE, MUL, MOD, TRUNC, LTZ, OVER, BLOCKS, REVEAL, BITLT, inRanges, outputs}
 use Rattle.model.specs.Run.{State, register}
 use Rattle.model.specs.Formulas.{Remains, Divides, Signs, Exceeds, Charges, Compares}
 
@@ -21,10 +21,9 @@ abbrev pub secretIn : Setting → State → ℕ → ℕ
 secretIn S s r = secret (S .p) (S .t) (register s r)
 
 -- What a command leaves, s being the state before it and s′ after it. "LOAD d: next input row", and there is one; "CONST d v: v, every share being
--- v"; ADD, SUB, SCALE and MUL modulo p. REVEAL opens its register, and the register's secret goes to the revealed list. END is no line of a run.
+-- v"; ADD, SUB, SCALE and MUL modulo p. REVEAL opens its register, and the register's secret goes to the revealed list.
 abbrev pub Leaves : Setting → List Row → Command → State → State → Type 0
-Leaves S input END s s′ = ⊥
-Leaves S input (LOAD d) s s′ = (s .spent .inputs < length input) × (register s′ d ≡ getD input (s .spent .inputs) noRow)
+Leaves S input (LOAD d) s s′ = (s .spent .counts .inputs < length input) × (register s′ d ≡ getD input (s .spent .counts .inputs) noRow)
 Leaves S input (CONST d v) s s′ = (register s′ d ≡ row (S .n) (λ _. v)) × (secretIn S s′ d ≡ v)
 Leaves S input (ADD d a b) s s′ = secretIn S s′ d ≡ (secretIn S s a + secretIn S s b) % S .p
 Leaves S input (SUB d a b) s s′ = (secretIn S s′ d + secretIn S s b) % S .p ≡ secretIn S s a
@@ -38,22 +37,9 @@ Leaves S input (BLOCKS d a k m) s s′ = Charges (S .p) k m (secretIn S s a) (se
 Leaves S input (REVEAL a) s s′ = (s′ .opened ≡ s .opened ++ (register s a ∷ [])) × (s′ .shown ≡ s .shown ++ (secretIn S s a ∷ []))
 Leaves S input (BITLT d b w v) s s′ = Compares (S .p) v (map (secretIn S s) (from b w)) (secretIn S s′ d)
 
--- the registers in which a command leaves something: d, where it has one
-unfoldable pub target : Command → List ℕ
-target END = []
-target (LOAD d) = d ∷ []
-target (CONST d v) = d ∷ []
-target (ADD d a b) = d ∷ []
-target (SUB d a b) = d ∷ []
-target (SCALE d a v) = d ∷ []
-target (MUL d a b) = d ∷ []
-target (MOD d a k m) = d ∷ []
-target (TRUNC d a k m) = d ∷ []
-target (LTZ d a k) = d ∷ []
-target (OVER d a k v) = d ∷ []
-target (BLOCKS d a k m) = d ∷ []
-target (REVEAL a) = []
-target (BITLT d b w v) = d ∷ []
+-- the registers in which a command leaves something
+abbrev pub target : Command → List ℕ
+target c = outputs c .target
 
 -- A command that a run performs: its operands are in range, K being the field's largest k; it leaves what it should, as secrets below p; it sets its
 -- target, and leaves every other register as it was.

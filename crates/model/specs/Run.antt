@@ -3,10 +3,9 @@
 -- Assumes nothing.
 use mathlib.Core.Bool.{Bool, false}
 use mathlib.Core.List.{List, [], _++_}
-use Prim.Native.Nat.{ℕ, zero, suc}
+use Prim.Native.Nat.{ℕ}
 use lib.ListN.{length, getD, replicate}
 use Rattle.algebra.specs.Lists as Lists
-use Rattle.model.specs.Fields.{largestK}
 use Rattle.model.specs.Deal.{Setting, Row, Deal}
 pub use Rattle.model.specs.Deal.{noRow}
 use Rattle.model.specs.Trees.{Tree, done}
@@ -14,11 +13,13 @@ use Rattle.model.specs.Trees as Trees
 use Rattle.model.specs.Steps.{Worked, rowOps, byRows}
 unfoldable pub use Rattle.model.specs.Steps.{written}
 use Rattle.model.specs.Script.{Command, Line, Script, accepted, refused, scriptOf}
+use Rattle.model.specs.Refusing.{given}
+use Rattle.model.specs.Counts.{Counts, noCounts}
 use Rattle.model.specs.Costs.{modTriples, cost}
 pub use Rattle.model.specs.Checks.{Spent, Supply}
 unfoldable pub use Rattle.model.specs.Checks.{allSet, marked, check, pay}
 use Rattle.model.specs.Commands.{Ended, command, lines}
-use Rattle.model.specs.Sheet.{Header, headerOf, settingOf, scriptIn, inputIn, dealIn, sheetNumber}
+use Rattle.model.specs.Sheet.{Header, headerOf, largestIn, settingOf, scriptIn, inputIn, dealIn, sheetNumber}
 
 -- The state of a run: what was spent, the registers, the deal that is left, the rows opened and the values revealed so far.
 pub record State : Type 0 where
@@ -48,7 +49,7 @@ module _ (S : Setting) where
 -- what a command does to registers, deal and output: its tree, read by rows
 unfoldable pub perform : Setting → List Row → Command → State → State
 perform S input c s =
-    let w = byRows S (rowCommand S input (s .spent .inputs) c (s .registers) done) (s .deal) in
+    let w = byRows S (rowCommand S input (s .spent .counts .inputs) c (s .registers) done) (s .deal) in
     stateAfter s (s .spent) (w .left) w
 
 -- a finished command: performed and paid
@@ -63,11 +64,6 @@ pub record Stop : Type 0 where
   pub place : ℕ
   pub state : State
 
--- with a number other than 0 the run stops at this place in the state s; with 0 it goes on
-abbrev pub orElse : ℕ → ℕ → State → Stop → Stop
-orElse zero place s go = go
-orElse (suc number) place s go = record { number = suc number; place = place; state = s }
-
 -- the lines of a script, read by rows from the state s on; `end` is END's offset
 unfoldable pub runLines : Setting → Supply → List Row → ℕ → List Line → State → Stop
 runLines S u input end xs s =
@@ -77,22 +73,17 @@ runLines S u input end xs s =
 
 -- "A run starts with all registers unset, all counts 0 and nothing written."
 unfoldable pub nothingSpent : Spent
-nothingSpent = record { inputs = 0; masks = 0; triples = 0; openings = 0; revealed = 0; marks = replicate 64 false }
+nothingSpent = record { counts = noCounts; marks = replicate 64 false }
 
 unfoldable pub start : Deal → State
 start d = record { spent = nothingSpent; registers = replicate 64 noRow; deal = d; opened = []; shown = [] }
 
--- "The answer holds number, place, inputs, masks, triples, openings, the registers and which are set", and both lent buffers. With them stands
--- how many values were revealed, which the paper's answer leaves to be computed from the counts (`Balance` in Exactness.antt). The paper's
--- record, the list of opened shares, is called log here: record is a word of this language.
+-- "The answer holds number, place, inputs, masks, triples, openings, the registers and which are set", and both lent buffers. The paper's record, the
+-- list of opened shares, is called log here: record is a word of this language.
 pub record Outcome : Type 0 where
   pub number : ℕ
   pub place : ℕ
-  pub inputs : ℕ
-  pub masks : ℕ
-  pub triples : ℕ
-  pub openings : ℕ
-  pub values : ℕ
+  pub counts : Counts
   pub registers : List Row
   pub marks : List Bool
   pub log : List ℕ
@@ -105,15 +96,11 @@ outcome n log revealed x =
     record {
       number = x .number;
       place = x .place;
-      inputs = s .spent .inputs;
-      masks = s .spent .masks;
-      triples = s .spent .triples;
-      openings = s .spent .openings;
-      values = s .spent .revealed;
+      counts = s .spent .counts;
       registers = s .registers;
       marks = s .spent .marks;
-      log = Lists.over (written n (s .opened)) log;
-      revealed = Lists.over (s .shown) revealed;
+      log = Lists.onto (written n (s .opened)) log;
+      revealed = Lists.onto (s .shown) revealed;
     }
 
 -- "Nothing is run. Both output buffers keep their contents, all registers are unset, all counts 0."
@@ -129,14 +116,14 @@ unfoldable pub runScript : Header → List ℕ → ℕ → ℕ → Script → St
 runScript h s log shown (refused number place) = refusedInput number place
 runScript h s log shown (accepted xs end) = runLines (settingOf h) (supplyOf h log shown) (inputIn h s) end xs (start (dealIn h s))
 
--- "9 to 11 are tried command by command from the script's start": the sheet's script, read with p and the largest k of its field
+-- "9 to 11 are tried command by command from the script's start": the sheet's script, read with p and the largest k of its header
 abbrev pub sheetScript : List ℕ → Script
-sheetScript s = let h = headerOf s in scriptOf (settingOf h .p) (largestK (h .field)) (scriptIn h s)
+sheetScript s = let h = headerOf s in scriptOf (settingOf h .p) (largestIn h) (scriptIn h s)
 
 -- 1 to 8 are tried before 9 to 11, and the script is run where none refuses. "The place is 0 for 1 to 8; for 9 to 11 the command's offset in the
 -- script, the script length if END is missing, or the offset just after END."
 unfoldable pub stopOf : List ℕ → ℕ → ℕ → Stop
-stopOf s log shown = orElse (sheetNumber s) 0 (start (record { masks = []; triples = [] })) (runScript (headerOf s) s log shown (sheetScript s))
+stopOf s log shown = given (sheetNumber s) (runScript (headerOf s) s log shown (sheetScript s)) (refusedInput (sheetNumber s) 0)
 
 -- The run of a sheet with two lent buffers: "For each input, the one permitted answer, each cell, and both buffers to their last number, also
 -- when refused." Demand 1: "A bad sheet or a spent deal gets its number from document 01, called the paper here, and nothing past the last

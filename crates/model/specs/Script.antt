@@ -1,17 +1,17 @@
 -- The paper, the table of commands: what the bytes of a script say, and the refusals 9 to 11 of a whole script with their places.
 -- Assumes nothing.
 use mathlib.Core.Path.{_≡_}
-use mathlib.Core.Bool.{Bool, true, false, _&&_, cond}
+use mathlib.Core.Bool.{Bool, true, _&&_, cond}
 use mathlib.Core.List.{List, [], _∷_}
 use Prim.Native.Nat.{ℕ, zero, suc, _+_, _^_}
 use lib.Dec.{ltb, leb, eqb}
 use lib.ListN.{length, getD}
 use Rattle.model.specs.Bytes.{number}
+use Rattle.model.specs.Refusing.{firstFailed}
 
--- The commands of the table, 00 to 0D, each with its operands in order: "END", "LOAD d", "CONST d v", "ADD d a b", "SUB d a b", "SCALE d a v",
+-- The commands of the table, 01 to 0D, each with its operands in order: "LOAD d", "CONST d v", "ADD d a b", "SUB d a b", "SCALE d a v",
 -- "MUL d a b", "MOD d a k m", "TRUNC d a k m", "LTZ d a k", "OVER d a k v", "BLOCKS d a k m", "REVEAL a", "BITLT d b w v"
 pub data Command : Type 0 where
-  END : Command
   LOAD : ℕ → Command
   CONST : ℕ → ℕ → Command
   ADD SUB SCALE MUL : ℕ → ℕ → ℕ → Command
@@ -21,85 +21,139 @@ pub data Command : Type 0 where
   REVEAL : ℕ → Command
   BITLT : ℕ → ℕ → ℕ → ℕ → Command
 
--- the command that ends a script
-abbrev pub isEnd : Command → Bool
-isEnd END = true
-isEnd (LOAD d) = false
-isEnd (CONST d v) = false
-isEnd (ADD d a b) = false
-isEnd (SUB d a b) = false
-isEnd (SCALE d a v) = false
-isEnd (MUL d a b) = false
-isEnd (MOD d a k m) = false
-isEnd (TRUNC d a k m) = false
-isEnd (LTZ d a k) = false
-isEnd (OVER d a k v) = false
-isEnd (BLOCKS d a k m) = false
-isEnd (REVEAL a) = false
-isEnd (BITLT d b w v) = false
+-- The registers in which a command leaves something, and those whose values go to the revealed list: d, where it has one, and REVEAL's a.
+pub record Outputs : Type 0 where
+  pub target : List ℕ
+  pub shown : List ℕ
 
--- "d, a, b are one-byte registers 0 to 63; k, m, w one byte; v four bytes": the commands 00 to 0D with the operands that follow place i of a
--- script, and the one that the byte at place i says
-abbrev pub commandsAt : List ℕ → ℕ → List Command
-commandsAt s i =
+abbrev into : ℕ → Outputs
+into d = record { target = d ∷ []; shown = [] }
+
+unfoldable pub outputs : Command → Outputs
+outputs (LOAD d) = into d
+outputs (CONST d v) = into d
+outputs (ADD d a b) = into d
+outputs (SUB d a b) = into d
+outputs (SCALE d a v) = into d
+outputs (MUL d a b) = into d
+outputs (MOD d a k m) = into d
+outputs (TRUNC d a k m) = into d
+outputs (LTZ d a k) = into d
+outputs (OVER d a k v) = into d
+outputs (BLOCKS d a k m) = into d
+outputs (REVEAL a) = record { target = []; shown = a ∷ [] }
+outputs (BITLT d b w v) = into d
+
+-- what a byte of the table says: 00 is END, the others are commands
+pub data Said : Type 0 where
+  END : Said
+  does : Command → Said
+
+-- a command, and how many bytes it takes
+abbrev takes : ℕ → Command → ℕ × Said
+takes size c = (size, does c)
+
+-- "d, a, b are one-byte registers 0 to 63; k, m, w one byte; v four bytes": what the bytes 00 to 0D say, with the operands that follow place i of a
+-- script, and before it how many bytes that takes: its own, one for each of d, a, b, k, m and w, and four for v
+abbrev pub table : List ℕ → ℕ → List (ℕ × Said)
+table s i =
     let o : ℕ → ℕ = λ j. getD s (i + j) 0 in
     let v : ℕ → ℕ = λ j. number 4 s (i + j) in
-    END ∷ LOAD (o 1) ∷ CONST (o 1) (v 2) ∷ ADD (o 1) (o 2) (o 3) ∷ SUB (o 1) (o 2) (o 3) ∷ SCALE (o 1) (o 2) (v 3) ∷ MUL (o 1) (o 2) (o 3)
-    ∷ MOD (o 1) (o 2) (o 3) (o 4) ∷ TRUNC (o 1) (o 2) (o 3) (o 4) ∷ LTZ (o 1) (o 2) (o 3) ∷ OVER (o 1) (o 2) (o 3) (v 4)
-    ∷ BLOCKS (o 1) (o 2) (o 3) (o 4) ∷ REVEAL (o 1) ∷ BITLT (o 1) (o 2) (o 3) (v 4) ∷ []
+    (1, END) ∷ takes 2 (LOAD (o 1)) ∷ takes 6 (CONST (o 1) (v 2)) ∷ takes 4 (ADD (o 1) (o 2) (o 3)) ∷ takes 4 (SUB (o 1) (o 2) (o 3))
+    ∷ takes 7 (SCALE (o 1) (o 2) (v 3)) ∷ takes 4 (MUL (o 1) (o 2) (o 3)) ∷ takes 5 (MOD (o 1) (o 2) (o 3) (o 4))
+    ∷ takes 5 (TRUNC (o 1) (o 2) (o 3) (o 4)) ∷ takes 4 (LTZ (o 1) (o 2) (o 3)) ∷ takes 8 (OVER (o 1) (o 2) (o 3) (v 4))
+    ∷ takes 5 (BLOCKS (o 1) (o 2) (o 3) (o 4)) ∷ takes 2 (REVEAL (o 1)) ∷ takes 8 (BITLT (o 1) (o 2) (o 3) (v 4)) ∷ []
 
-unfoldable pub commandAt : List ℕ → ℕ → Command
-commandAt s i = getD (commandsAt s i) (getD s i 0) END
+-- what the byte b says, and what the byte at place i says
+unfoldable pub byteSays : List ℕ → ℕ → ℕ → ℕ × Said
+byteSays s i b = getD (table s i) b (1, END)
 
--- how many bytes each command takes, from 00 to 0D: its own, one for each of d, a, b, k, m and w, and four for v
-abbrev pub sizes : List ℕ
-sizes = 1 ∷ 2 ∷ 6 ∷ 4 ∷ 4 ∷ 7 ∷ 4 ∷ 5 ∷ 5 ∷ 4 ∷ 8 ∷ 5 ∷ 2 ∷ 8 ∷ []
+abbrev pub saidAt : List ℕ → ℕ → ℕ × Said
+saidAt s i = byteSays s i (getD s i 0)
 
--- the same of the command at place i
-unfoldable pub sizeAt : List ℕ → ℕ → ℕ
-sizeAt s i = getD sizes (getD s i 0) 1
+abbrev pub sizeAt : List ℕ → ℕ → ℕ
+sizeAt s i = saidAt s i .0
+
+-- a test of operands: that one number is at most another, or below it
+pub data Test : Type 0 where
+  atMost below : ℕ → ℕ → Test
+
+abbrev pub passes : Test → Bool
+passes (atMost a b) = leb a b
+passes (below a b) = ltb a b
+
+unfoldable pub allPass : List Test → Bool
+allPass [] = true
+allPass (t ∷ []) = passes t
+allPass (t ∷ u ∷ ts) = passes t && allPass (u ∷ ts)
 
 -- "d, a, b are one-byte registers 0 to 63"
-abbrev pub register : ℕ → Bool
-register r = ltb r 64
+abbrev pub register : ℕ → Test
+register r = below r 64
 
 -- "k from 2 to the field's largest", which is K
-abbrev pub kIn : ℕ → ℕ → Bool
-kIn K k = leb 2 k && leb k K
+abbrev pub kIn : ℕ → ℕ → List Test → List Test
+kIn K k more = atMost 2 k ∷ atMost k K ∷ more
 
 -- "m from 1 to k − 1"
-abbrev pub mIn : ℕ → ℕ → Bool
-mIn k m = leb 1 m && ltb m k
+abbrev pub mIn : ℕ → ℕ → List Test
+mIn k m = atMost 1 m ∷ below m k ∷ []
 
 -- "Ranges: k from 2 to the field's largest; m from 1 to k − 1; v below p, except in BITLT, where w is 1 to 31, b + w at most 64 and v
 -- below 2^w (bit i in register b + i)."
-unfoldable pub inRanges : ℕ → ℕ → Command → Bool
-inRanges p K END = true
-inRanges p K (LOAD d) = register d
-inRanges p K (CONST d v) = register d && ltb v p
-inRanges p K (ADD d a b) = register d && register a && register b
-inRanges p K (SUB d a b) = register d && register a && register b
-inRanges p K (SCALE d a v) = register d && register a && ltb v p
-inRanges p K (MUL d a b) = register d && register a && register b
-inRanges p K (MOD d a k m) = register d && register a && kIn K k && mIn k m
-inRanges p K (TRUNC d a k m) = register d && register a && kIn K k && mIn k m
-inRanges p K (LTZ d a k) = register d && register a && kIn K k
-inRanges p K (OVER d a k v) = register d && register a && kIn K k && ltb v p
-inRanges p K (BLOCKS d a k m) = register d && register a && kIn K k && mIn k m
-inRanges p K (REVEAL a) = register a
-inRanges p K (BITLT d b w v) = register d && register b && leb 1 w && leb w 31 && leb (b + w) 64 && ltb v (2 ^ w)
+abbrev pub ranges : ℕ → ℕ → Command → List Test
+ranges p K (LOAD d) = register d ∷ []
+ranges p K (CONST d v) = register d ∷ below v p ∷ []
+ranges p K (ADD d a b) = register d ∷ register a ∷ register b ∷ []
+ranges p K (SUB d a b) = register d ∷ register a ∷ register b ∷ []
+ranges p K (SCALE d a v) = register d ∷ register a ∷ below v p ∷ []
+ranges p K (MUL d a b) = register d ∷ register a ∷ register b ∷ []
+ranges p K (MOD d a k m) = register d ∷ register a ∷ kIn K k (mIn k m)
+ranges p K (TRUNC d a k m) = register d ∷ register a ∷ kIn K k (mIn k m)
+ranges p K (LTZ d a k) = register d ∷ register a ∷ kIn K k []
+ranges p K (OVER d a k v) = register d ∷ register a ∷ kIn K k (below v p ∷ [])
+ranges p K (BLOCKS d a k m) = register d ∷ register a ∷ kIn K k (mIn k m)
+ranges p K (REVEAL a) = register a ∷ []
+ranges p K (BITLT d b w v) = register d ∷ register b ∷ atMost 1 w ∷ atMost w 31 ∷ atMost (b + w) 64 ∷ below v (2 ^ w) ∷ []
 
--- What stands at place i: 0, or the number of a refusal there. The third case of 10, bytes after END, is tried in scriptStep.
-unfoldable pub numberAt : ℕ → ℕ → List ℕ → ℕ → ℕ
-numberAt p K s i =
+-- a command's operands are in range; END has none
+abbrev pub inRanges : ℕ → ℕ → Command → Bool
+inRanges p K c = allPass (ranges p K c)
+
+abbrev pub operandsIn : ℕ → ℕ → Said → Bool
+operandsIn p K END = true
+operandsIn p K (does c) = inRanges p K c
+
+-- What must hold at place i, in the order in which it is tried, each with the number of the refusal where it fails. The third case of 10, bytes
+-- after END, is tried in scriptStep.
+abbrev pub testsAt : ℕ → ℕ → List ℕ → ℕ → List (Bool × ℕ)
+testsAt p K s i =
     -- "10: operands cut off, no END, or bytes after END (an empty script too)": the script ends here, and has no END
-    cond (leb (length s) i) 10
+    (ltb i (length s), 10)
     -- "9: a command byte over 0D"
-    (cond (ltb 13 (getD s i 0)) 9
+    ∷ (leb (getD s i 0) 13, 9)
     -- operands cut off
-    (cond (ltb (length s) (i + sizeAt s i)) 10
+    ∷ (leb (i + sizeAt s i) (length s), 10)
     -- "11: an operand out of range"
-    (cond (inRanges p K (commandAt s i)) 0 11)))
+    ∷ (operandsIn p K (saidAt s i .1), 11)
+    ∷ []
+
+unfoldable pub numberAt : ℕ → ℕ → List ℕ → ℕ → ℕ
+numberAt p K s i = firstFailed (testsAt p K s i)
+
+-- what stands at a place: END or a command, and the place after it, or the number of a refusal
+pub data Reading : Type 0 where
+  ends : ℕ → Reading
+  says : Command → ℕ → Reading
+  refusal : ℕ → Reading
+
+abbrev pub reading : ℕ → Said → ℕ → Reading
+reading zero END next = ends next
+reading zero (does c) next = says c next
+reading (suc number) said next = refusal (suc number)
+
+unfoldable pub readingAt : ℕ → ℕ → List ℕ → ℕ → Reading
+readingAt p K s i = reading (numberAt p K s i) (saidAt s i .1) (i + sizeAt s i)
 
 -- a command of a script, and its offset
 pub record Line : Type 0 where
@@ -117,18 +171,17 @@ abbrev pub withLine : Line → Script → Script
 withLine x (accepted xs end) = accepted (x ∷ xs) end
 withLine x (refused number place) = refused number place
 
--- "for 9 to 11 the command's offset in the script, the script length if END is missing, or the offset just after END": by the number at
--- place i a refusal, END, or a command and the rest
-abbrev pub scriptStep : ℕ → List ℕ → ℕ → Script → Script
-scriptStep zero s i rest =
-    cond (eqb (getD s i 0) 0) (cond (eqb (i + 1) (length s)) (accepted [] i) (refused 10 (i + 1)))
-    (withLine (record { place = i; command = commandAt s i }) rest)
-scriptStep (suc number) s i rest = refused (suc number) i
+-- "for 9 to 11 the command's offset in the script, the script length if END is missing, or the offset just after END": by what stands at
+-- place i of a script of length n
+abbrev pub scriptStep : Reading → ℕ → ℕ → Script → Script
+scriptStep (ends next) n i rest = cond (eqb next n) (accepted [] i) (refused 10 next)
+scriptStep (says c next) n i rest = withLine (record { place = i; command = c }) rest
+scriptStep (refusal number) n i rest = refused number i
 
 -- from place i on, at most so many commands; each takes a byte at least
 unfoldable pub scriptFrom : ℕ → ℕ → ℕ → List ℕ → ℕ → Script
 scriptFrom zero p K s i = refused 10 i
-scriptFrom (suc most) p K s i = scriptStep (numberAt p K s i) s i (scriptFrom most p K s (i + sizeAt s i))
+scriptFrom (suc most) p K s i = scriptStep (readingAt p K s i) (length s) i (scriptFrom most p K s (i + sizeAt s i))
 
 -- from the script's start
 unfoldable pub scriptOf : ℕ → ℕ → List ℕ → Script

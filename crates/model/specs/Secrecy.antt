@@ -11,11 +11,10 @@ use Prim.Native.Nat.{ℕ}
 use lib.Dec.{T}
 use lib.ListN.{length}
 use Rattle.algebra.specs.Lists.{All}
-use Rattle.model.specs.Fields.{bits}
 use Rattle.model.specs.Sharing.{Sharing}
 use Rattle.model.specs.Shamir.{Group, Agree}
 use Rattle.model.specs.Deal.{Row, Deal}
-use Rattle.model.specs.Sheet.{Header, headerOf, settingOf, scriptIn, inputIn, dealRows, goodMask, goodTriple, sheetOf}
+use Rattle.model.specs.Sheet.{Header, headerOf, maskBits, settingOf, scriptIn, inputIn, dealRows, goodMask, goodTriple, sheetOf}
 use Rattle.model.specs.Run.{Outcome, stopOf, run}
 use Rattle.model.specs.Exactness.{Accepted}
 
@@ -23,7 +22,7 @@ use Rattle.model.specs.Exactness.{Accepted}
 -- is well formed." A sharing's shares are below p.
 pub record WellFormed (h : Header) (d : Deal) : Type 0 where
   pub masks : length (d .masks) ≡ h .masks
-  pub bits-each : All (λ m. length m ≡ bits (h .field)) (d .masks)
+  pub bits-each : All (λ m. length m ≡ maskBits h) (d .masks)
   pub triples : length (d .triples) ≡ h .triples
   pub sharings : All (Sharing (settingOf h .p) (h .n) (h .t)) (dealRows d)
   pub good-masks : All (λ m. T (goodMask (settingOf h) m)) (d .masks)
@@ -41,11 +40,7 @@ pub record SameTo (set : List ℕ) (x y : Outcome) : Type 0 where
   pub revealed : x .revealed ≡ y .revealed
   pub number : x .number ≡ y .number
   pub place : x .place ≡ y .place
-  pub inputs : x .inputs ≡ y .inputs
-  pub masks : x .masks ≡ y .masks
-  pub triples : x .triples ≡ y .triples
-  pub openings : x .openings ≡ y .openings
-  pub values : x .values ≡ y .values
+  pub counts : x .counts ≡ y .counts
   pub marks : x .marks ≡ y .marks
   pub columns : Alike set (x .registers) (y .registers)
 

@@ -1,4 +1,4 @@
--- What Shamir's sharing promises: for every field p of the table and all parties n and thresholds t that the paper permits.
+-- What Shamir's sharing promises: for every field p in use and all parties n and thresholds t that the paper permits.
 -- Assumes nothing.
 use mathlib.Core.Path.{_≡_}
 use mathlib.Core.Logic.{_↔_}
@@ -10,7 +10,7 @@ use lib.ListN.{length}
 use Rattle.algebra.specs.Ring.{add, sub, mul}
 use Rattle.algebra.specs.Lists.{Below, from, Distinct}
 use Rattle.algebra.specs.Rows.{row, on, padded}
-use Rattle.model.specs.Fields.{Parties, modulus, largestK}
+use Rattle.model.specs.Fields.{Parties, modulus, largestK, InUse}
 use Rattle.model.specs.Coding.{inRange}
 use Rattle.model.specs.Sharing.{Sharing, eval, share, recover, secret, isSharing, at, weighted}
 use Rattle.model.specs.Entries.{shareNumber, shareLeft, recoverNumber, recoverValue, recoverLeft, encodeNumber, encodeValue, decodeNumber, decodeValue}
@@ -86,13 +86,12 @@ pub record CodeEntries (f : ℕ) : Type 0 where
   pub encode-undoes : (k v : ℕ) → 2 ≤ k → k ≤ largestK f → decodeNumber f v ≡ 0 → T (inRange k (decodeValue f v))
       → (encodeNumber f k (decodeValue f v) ≡ 0) × (encodeValue f k (decodeValue f v) ≡ v)
 
--- "Sharing and reconstruction are Shamir's, each undoing the other": for every field of the table, and all parties and thresholds that the paper
--- permits
+-- "Sharing and reconstruction are Shamir's, each undoing the other": for every field in use, and all parties and thresholds that the paper permits
 abbrev pub EverySharing : Type 0
-EverySharing = (f n t : ℕ) → f < 4 → Parties n t → Shamir (modulus f) n t
+EverySharing = (f n t : ℕ) → InUse f → Parties n t → Shamir (modulus f) n t
 
 abbrev pub EveryEntry : Type 0
-EveryEntry = (f n t : ℕ) → f < 4 → Parties n t → Entries f n t
+EveryEntry = (f n t : ℕ) → InUse f → Parties n t → Entries f n t
 
 abbrev pub EveryCodeEntry : Type 0
-EveryCodeEntry = (f : ℕ) → f < 4 → CodeEntries f
+EveryCodeEntry = (f : ℕ) → InUse f → CodeEntries f

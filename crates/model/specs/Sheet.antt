@@ -4,13 +4,13 @@
 use mathlib.Core.Bool.{Bool, true, _&&_}
 use mathlib.Core.List.{List, [], _∷_, _++_}
 use Prim.Native.Nat.{ℕ, zero, suc, _+_, _*_, _/_, _%_}
-use lib.Dec.{ltb, leb, eqb}
+use lib.Dec.{T, ltb, leb, eqb}
 use lib.ListN.{length, getD, take, drop}
 use Rattle.algebra.specs.Ring.{mul}
 use Rattle.algebra.specs.Lists.{allBelow}
-use Rattle.model.specs.Fields.{modulus, bits, parties}
+use Rattle.model.specs.Fields.{modulus, bits, largestK, InUse, Parties, settingTests}
 use Rattle.model.specs.Sharing.{secret, isSharing}
-use Rattle.model.specs.Refusing.{tried}
+use Rattle.model.specs.Refusing.{firstFailed}
 use Rattle.model.specs.Bytes.{number, rowAt}
 use Rattle.model.specs.Deal.{Setting, Row, Triple, Deal}
 
@@ -25,7 +25,7 @@ pub record Header : Type 0 where
   pub triples : ℕ
   pub script : ℕ
 
--- the header that a sheet's first 11 bytes say
+-- the header that a sheet's first bytes say
 unfoldable pub headerOf : List ℕ → Header
 headerOf s =
     record {
@@ -38,9 +38,21 @@ headerOf s =
       script = number 2 s 9;
     }
 
--- "Four fields are held in one constant table": p and bits ℓ of the header's field, with its n and t
+-- Named numbers of a header. "That header is 11 bytes."
+unfoldable pub headerSize : Header → ℕ
+headerSize h = 11
+
+-- "the masks, each ℓ rows, bit 0 first": ℓ of the header's field
+unfoldable pub maskBits : Header → ℕ
+maskBits h = bits (h .field)
+
+-- "k from 2 to the field's largest"
+unfoldable pub largestIn : Header → ℕ
+largestIn h = largestK (h .field)
+
+-- "Four fields are held in one constant table": p of the header's field and the bits of its masks, with its n and t
 abbrev pub settingOf : Header → Setting
-settingOf h = record { p = modulus (h .field); l = bits (h .field); n = h .n; t = h .t }
+settingOf h = record { p = modulus (h .field); l = maskBits h; n = h .n; t = h .t }
 
 -- "input rows (at most 64), masks (at most 16), triples (at most 512), script length (at most 1,024)"
 unfoldable pub limits : Header → Bool
@@ -49,20 +61,20 @@ limits h = leb (h .inputs) 64 && leb (h .masks) 16 && leb (h .triples) 512 && le
 -- "Then the script; the input rows; the masks, each ℓ rows, bit 0 first; the triples, each rows a, b, c." The places where they start, and
 -- the length that the header implies:
 abbrev pub inputsAt : Header → ℕ
-inputsAt h = 11 + h .script
+inputsAt h = headerSize h + h .script
 
 abbrev pub masksAt : Header → ℕ
 masksAt h = inputsAt h + 4 * h .n * h .inputs
 
 abbrev pub triplesAt : Header → ℕ
-triplesAt h = masksAt h + 4 * h .n * bits (h .field) * h .masks
+triplesAt h = masksAt h + 4 * h .n * maskBits h * h .masks
 
 unfoldable pub impliedLength : Header → ℕ
 impliedLength h = triplesAt h + 4 * h .n * 3 * h .triples
 
 -- "Then the script": the bytes after the header, as many as it says
 unfoldable pub scriptIn : Header → List ℕ → List ℕ
-scriptIn h s = take (h .script) (drop 11 s)
+scriptIn h s = take (h .script) (drop (headerSize h) s)
 
 -- so many rows, masks and triples, from place i on
 unfoldable pub rowsAt : List ℕ → ℕ → ℕ → ℕ → List Row
@@ -87,7 +99,7 @@ inputIn h s = rowsAt s (h .n) (inputsAt h) (h .inputs)
 unfoldable pub dealIn : Header → List ℕ → Deal
 dealIn h s =
     record {
-      masks = masksFrom s (h .n) (bits (h .field)) (masksAt h) (h .masks);
+      masks = masksFrom s (h .n) (maskBits h) (masksAt h) (h .masks);
       triples = triplesFrom s (h .n) (triplesAt h) (h .triples);
     }
 
@@ -134,35 +146,52 @@ sharesBelow S x = allBelow (S .p) (take (S .n) x)
 abbrev pub aSharing : Setting → Row → Bool
 aSharing S x = isSharing (S .p) (S .n) (S .t) x
 
--- 1 to 4, or the number of what is tried after them
-abbrev pub headerTried : List ℕ → ℕ → ℕ
-headerTried s rest =
+-- The tests of a sheet, each of what must hold, with the number of its refusal. What looks at the header alone:
+unfoldable pub headerTests : List ℕ → List (Bool × ℕ)
+headerTests s =
     let h = headerOf s in
     -- "1: fewer than 11 bytes"
-    tried (leb 11 (length s)) 1
-    -- "2: field over 3"
-    (tried (ltb (h .field) 4) 2
-    -- "3: n or t outside the ranges"
-    (tried (parties (h .n) (h .t)) 3
-    -- "4: a count over its limit, or a sheet length other than the header implies"
-    (tried (limits h && eqb (length s) (impliedLength h)) 4 rest)))
+    (leb (headerSize h) (length s), 1)
+    -- "2: field over 3", "3: n or t outside the ranges"
+    ∷ settingTests (h .field) (h .n) (h .t)
 
--- "Tried in this order, each over the whole sheet before the next": 1 to 8, or 0. A test is of what must hold, and its number is the refusal's.
-unfoldable pub sheetNumber : List ℕ → ℕ
-sheetNumber s =
-    let h = headerOf s in
-    let S = settingOf h in
-    let d = dealIn h s in
-    let rows = inputIn h s ++ dealRows d in
-    headerTried s
+-- "4: a count over its limit"
+unfoldable pub limitTests : Header → List (Bool × ℕ)
+limitTests h = (limits h, 4) ∷ []
+
+-- "or a sheet length other than the header implies"
+unfoldable pub lengthTests : Header → List ℕ → List (Bool × ℕ)
+lengthTests h s = (eqb (length s) (impliedLength h), 4) ∷ []
+
+-- what looks at the rows of input and deal
+unfoldable pub rowTests : Setting → List Row → Deal → List (Bool × ℕ)
+rowTests S input d =
+    let rows = input ++ dealRows d in
     -- "5: a share not below p"
-    (tried (all (sharesBelow S) rows) 5
+    (all (sharesBelow S) rows, 5)
     -- "6: a row that is no sharing"
-    (tried (all (aSharing S) rows) 6
+    ∷ (all (aSharing S) rows, 6)
     -- "7: a mask not well formed"
-    (tried (all (goodMask S) (d .masks)) 7
+    ∷ (all (goodMask S) (d .masks), 7)
     -- "8: a triple not well formed"
-    (tried (all (goodTriple S) (d .triples)) 8 0))))
+    ∷ (all (goodTriple S) (d .triples), 8)
+    ∷ []
+
+-- "Tried in this order, each over the whole sheet before the next"
+unfoldable pub sheetTests : List ℕ → List (Bool × ℕ)
+sheetTests s =
+    let h = headerOf s in
+    headerTests s ++ (limitTests h ++ (lengthTests h s ++ rowTests (settingOf h) (inputIn h s) (dealIn h s)))
+
+-- 1 to 8, or 0
+abbrev pub sheetNumber : List ℕ → ℕ
+sheetNumber s = firstFailed (sheetTests s)
+
+-- a header that neither 2 nor 3 refuses, nor 4 for a count
+pub record Permitted (h : Header) : Type 0 where
+  pub field : InUse (h .field)
+  pub people : Parties (h .n) (h .t)
+  pub counts : T (limits h)
 
 -- The other way, for "the sheet made of header, script, input and deal". "Numbers are little-endian": v in w bytes
 unfoldable pub bytesOf : ℕ → ℕ → List ℕ

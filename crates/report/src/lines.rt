@@ -6,6 +6,7 @@ use crate::number::line_end;
 use crate::number::list_line;
 use crate::number::number;
 use crate::number::signed;
+use costs::counts::Counts;
 
 // A line for each row of n numbers, each after the text: so many rows from the start of the list.
 pub fn rows(text: &[u8], n: usize, many: usize, xs: &[u32])
@@ -46,19 +47,12 @@ pub fn revealed(field: u32, values: usize, xs: &[u32])
 }
 
 // The last line: number, place and counts.
-pub fn end(
-    answer: u32,
-    place: usize,
-    inputs: usize,
-    masks: usize,
-    triples: usize,
-    openings: usize,
-) {
+pub fn end(answer: u32, place: usize, spent: Counts) {
     number(b"end ", answer);
     count(b" at ", place);
-    count(b" inputs ", inputs);
-    count(b" masks ", masks);
-    count(b" triples ", triples);
-    count(b" openings ", openings);
+    count(b" inputs ", spent.inputs);
+    count(b" masks ", spent.masks);
+    count(b" triples ", spent.triples);
+    count(b" openings ", spent.openings);
     line_end();
 }

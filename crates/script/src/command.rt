@@ -1,6 +1,5 @@
-// The fourteen commands with their operands: registers, k, m, w and v as the paper names them.
+// The thirteen commands with their operands: registers, k, m, w and v as the paper names them.
 pub enum Command {
-    End,
     Load {
         d: usize,
     },
@@ -68,8 +67,9 @@ pub enum Command {
     },
 }
 
-// What stands at a place of a script: a command and the place after it, or the paper's number of a refusal.
+// What stands at a place of a script: a command and the place after it, or the script ends there, with the paper's number and place: 0 and END's
+// offset, or a refusal's.
 pub enum Decoded {
     Command(Command, usize),
-    Refused(u32),
+    Ends(u32, usize),
 }

@@ -2,7 +2,8 @@
 // below 2^w".
 ghost use mathlib.Core.Path.{_≡_};
 ghost use mathlib.Core.Bool.{_&&_};
-ghost use Prim.Native.Nat.{_+_, _^_};
+ghost use mathlib.Core.List.{[], _∷_};
+ghost use Prim.Native.Nat.{_+_, _^_, _≤_};
 ghost use lib.Dec.{ltb, leb};
 ghost use Rattle.model.specs.Script as Script;
 ghost use Rattle.script.specs.Meaning.{meant};
@@ -15,46 +16,37 @@ fn both(x: bool, y: bool) -> bool
     if x { y } else { false }
 }
 
-fn registers(d: usize, a: usize) -> bool
-    ensures { λ r. ⌜ r ≡ (Script.register d && Script.register a) ⌝ }
+// d and a are registers, and the rest holds.
+fn on_registers(d: usize, a: usize, rest: bool) -> bool
+    ensures { λ r. ⌜ r ≡ (ltb d 64 && (ltb a 64 && rest)) ⌝ }
 {
-    both(d < 64, a < 64)
+    both(d < 64, both(a < 64, rest))
 }
 
-fn k_in(largest: u32, k: u32) -> bool
-    ensures { λ r. ⌜ r ≡ Script.kIn largest k ⌝ }
+// The same, k is in its range, and the rest holds.
+fn with_k(largest: u32, d: usize, a: usize, k: u32, rest: bool) -> bool
+    ensures { λ r. ⌜ r ≡ (ltb d 64 && (ltb a 64 && (leb 2 k && (leb k largest && rest)))) ⌝ }
 {
-    both(2 <= k, k <= largest)
+    on_registers(d, a, both(2 <= k, both(k <= largest, rest)))
 }
 
-fn m_in(k: u32, m: u32) -> bool
-    ensures { λ r. ⌜ r ≡ Script.mIn k m ⌝ }
-{
-    both(1 <= m, m < k)
-}
-
-// The tests that several commands share, in the paper's order of operands.
-fn three_registers(d: usize, a: usize, b: usize) -> bool
-    ensures { λ r. ⌜ r ≡ (Script.register d && Script.register a && Script.register b) ⌝ }
-{
-    both(registers(d, a), b < 64)
-}
-
-fn with_k(largest: u32, d: usize, a: usize, k: u32) -> bool
-    ensures { λ r. ⌜ r ≡ (Script.register d && Script.register a && Script.kIn largest k) ⌝ }
-{
-    both(registers(d, a), k_in(largest, k))
-}
-
+// MOD, TRUNC and BLOCKS.
 fn with_m(largest: u32, d: usize, a: usize, k: u32, m: u32) -> bool
-    ensures { λ r. ⌜ r ≡ (Script.register d && Script.register a && Script.kIn largest k && Script.mIn k m) ⌝ }
+    ensures { λ r. ⌜ r ≡ (ltb d 64 && (ltb a 64 && (leb 2 k && (leb k largest && (leb 1 m && ltb m k))))) ⌝ }
 {
-    both(with_k(largest, d, a, k), m_in(k, m))
+    with_k(largest, d, a, k, both(1 <= m, m < k))
+}
+
+fn two_to(w: usize) -> u32
+    requires { ⌜ w ≤ 31 ⌝ }
+    ensures { λ r. ⌜ r ≡ 2 ^ w ⌝ }
+{
+    1 << w
 }
 
 // BITLT. b + w and 2^w are computed once b and w are known to be small.
 fn bits_in(d: usize, b: usize, w: usize, v: u32) -> bool
-    ensures { λ r. ⌜ r ≡ (Script.register d && Script.register b && leb 1 w && leb w 31 && leb (b + w) 64 && ltb v (2 ^ w)) ⌝ }
+    ensures { λ r. ⌜ r ≡ Script.allPass (Script.register d ∷ Script.register b ∷ Script.atMost 1 w ∷ Script.atMost w 31 ∷ Script.atMost (b + w) 64 ∷ Script.below v (2 ^ w) ∷ []) ⌝ }
 {
     if 64 <= d {
         return false;
@@ -71,8 +63,10 @@ fn bits_in(d: usize, b: usize, w: usize, v: u32) -> bool
     if 64 < b + w {
         return false;
     }
-    let power: u32 = 1 << w;
-    v < power
+    if two_to(w) <= v {
+        return false;
+    }
+    true
 }
 
 // Whether a command's operands are in range; largest is the field's largest k.
@@ -80,17 +74,16 @@ pub fn in_range(p: u32, largest: u32, c: Command) -> bool
     ensures { λ r. ⌜ r ≡ Script.inRanges p largest (meant c) ⌝ }
 {
     match c {
-        Command::End => true,
         Command::Load { d } => d < 64,
         Command::Const { d, v } => both(d < 64, v < p),
-        Command::Add { d, a, b } => three_registers(d, a, b),
-        Command::Sub { d, a, b } => three_registers(d, a, b),
-        Command::Scale { d, a, v } => both(registers(d, a), v < p),
-        Command::Mul { d, a, b } => three_registers(d, a, b),
+        Command::Add { d, a, b } => on_registers(d, a, b < 64),
+        Command::Sub { d, a, b } => on_registers(d, a, b < 64),
+        Command::Scale { d, a, v } => on_registers(d, a, v < p),
+        Command::Mul { d, a, b } => on_registers(d, a, b < 64),
         Command::Mod { d, a, k, m } => with_m(largest, d, a, k, m),
         Command::Trunc { d, a, k, m } => with_m(largest, d, a, k, m),
-        Command::Ltz { d, a, k } => with_k(largest, d, a, k),
-        Command::Over { d, a, k, v } => both(with_k(largest, d, a, k), v < p),
+        Command::Ltz { d, a, k } => on_registers(d, a, both(2 <= k, k <= largest)),
+        Command::Over { d, a, k, v } => with_k(largest, d, a, k, v < p),
         Command::Blocks { d, a, k, m } => with_m(largest, d, a, k, m),
         Command::Reveal { a } => a < 64,
         Command::Bitlt { d, b, w, v } => bits_in(d, b, w, v),

@@ -4,3 +4,4 @@ pub mod Testing
 pub mod Recovery
 pub mod Numbers
 pub mod Outcomes
+pub mod Columns

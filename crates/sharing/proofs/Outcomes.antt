@@ -1,36 +1,61 @@
 -- What share and recover leave: where nothing refuses, what was put; in a refusal, what stood there.
 -- Assumes nothing.
-use mathlib.Core.Path.{_≡_, sym, _∙_}
-use mathlib.Core.List.{List, _∷_}
-use Prim.Native.Nat.{ℕ}
+use mathlib.Core.Path.{_≡_, refl, sym, _∙_}
+use mathlib.Core.Bool.{true}
+use mathlib.Core.List.{List, [], _∷_, _++_}
+use Prim.Native.Nat.{ℕ, _<_}
 use native.Mathlib.Omega.{arith}
-use lib.ListN.{take, drop}
-use Rattle.algebra.specs.Lists.{over}
+use lib.Dec.{ltb, eqb, eqb→eq}
+use lib.ListN.{length, take, drop}
+use Rattle.algebra.specs.Lists.{allBelow, ontoAt}
 use Rattle.algebra.specs.Rows.{padded}
-use Rattle.algebra.proofs.Lists.{over-all}
-use Rattle.model.specs.Fields.{modulus}
+use Rattle.algebra.proofs.Lists.{over-all, onto-at-start}
+use Rattle.algebra.proofs.Tests.{and-left, and-right}
+use Rattle.model.specs.Fields.{modulus, InUse, Parties, fieldTests, settingTests}
 use Rattle.model.specs.Sharing.{share, recover, secret}
-use Rattle.model.specs.Entries.{shareNumber, shareLeft, recoverNumber, recoverValue, recoverLeft}
-use Rattle.model.proofs.Trying.{given-refused}
+use Rattle.model.specs.Entries.{shareTests, shareNumber, shareLeft, recoverNumber, recoverValue, recoverLeft}
+use Rattle.model.proofs.Trying.{given-refused, numbered, holding, upTo, all-hold, first-pass, front-passes, setting-numbered, setting-field, setting-people}
 use Rattle.model.proofs.Entries.{share-accepted, share-left, length-shares, recover-value, recover-left}
 
-module _ (f n t s : ℕ) (cs out : List ℕ) where
-  pub shared : shareNumber f n t s cs out ≡ 0 → {p : ℕ} → p ≡ modulus f → {x last : List ℕ} → x ≡ share p n (s ∷ cs) → last ≡ over (take n x) out
-      → last ≡ shareLeft f n t s cs out
-  shared e q r w =
-      let F = share-accepted f n t s cs out e .0 in
-      w ∙ over-all _ out (rw (r, length-shares) (omega (arith, F .second))) ∙ rw (r, q) (sym (share-left f n t s cs out e))
+-- what is known where share answers neither 2, 3 nor 4, whatever it refuses after them
+pub record Fits (f n t lent : ℕ) : Type 0 where
+  pub field : InUse f
+  pub people : Parties n t
+  pub room : lent ≡ n
 
-  pub share-refused : (shareNumber f n t s cs out ≡ 0 → ⊥) → out ≡ shareLeft f n t s cs out
+module _ (f n t s : ℕ) (cs out : List ℕ) {r : ℕ} (e : r ≡ shareNumber f n t s cs out) where
+  pub share-fits : (0 < r → 4 < r) → Fits f n t (length out)
+  unfolding fieldTests settingTests shareTests numbered upTo holding
+  share-fits k =
+      let xs = settingTests f n t ++ ((eqb (length cs) t, 4) ∷ (eqb (length out) n, 4) ∷ []) in
+      let z = first-pass 4 xs ((ltb s (modulus f), 5) ∷ (allBelow (modulus f) cs, 5) ∷ []) tt tt e k in
+      let setting = front-passes (settingTests f n t) _ (setting-numbered f n t) z in
+      record {
+        field = setting-field f n t refl setting;
+        people = setting-people f n t refl setting;
+        room = eqb→eq (length out) n (and-left (eqb (length out) n) true (and-right (eqb (length cs) t) _ (all-hold 4 xs tt z)));
+      }
+
+  pub shared : r ≡ 0 → {p : ℕ} → p ≡ modulus f → {x last : List ℕ} → x ≡ share p n (s ∷ cs) → last ≡ ontoAt 0 (take n x) out → last ≡ shareLeft f n t s cs out
+  shared z q x-is w =
+      let A = share-accepted f n t s cs (length out) (sym e ∙ z) in
+      w ∙ onto-at-start _ out ∙ over-all _ out (rw (x-is, length-shares) (omega (arith, A .room))) ∙ rw (x-is, q) (sym (share-left f n t s cs out (sym e ∙ z)))
+
+  pub share-refused : (r ≡ 0 → ⊥) → out ≡ shareLeft f n t s cs out
   unfolding shareLeft
-  share-refused k = sym (given-refused _ _ _ k)
+  share-refused k = sym (given-refused _ _ _ (λ z. k (e ∙ z)))
 
-module _ (f n t : ℕ) (xs out : List ℕ) where
-  pub recovered : recoverNumber f n t xs out ≡ 0 → {p v : ℕ} → p ≡ modulus f → {x last : List ℕ} → x ≡ padded xs → v ≡ secret p t x
-      → last ≡ drop 1 (recover (modulus f) t x) → (v ≡ recoverValue f n t xs out) × (last ≡ recoverLeft f n t xs out)
-  recovered e q r w l =
-      (w ∙ rw (r, q) (sym (recover-value f n t xs out e)), l ∙ rw r (sym (recover-left f n t xs out e)))
+module _ (f n t : ℕ) (xs out : List ℕ) {r : ℕ} (e : r ≡ recoverNumber f n t xs out) where
+  pub recovered-value : r ≡ 0 → {p v : ℕ} → p ≡ modulus f → {x : List ℕ} → x ≡ padded xs → v ≡ secret p t x → v ≡ recoverValue f n t xs out
+  recovered-value z q x-is w = w ∙ rw (x-is, q) (sym (recover-value f n t xs out (sym e ∙ z)))
 
-  pub recover-refused : (recoverNumber f n t xs out ≡ 0 → ⊥) → (0 ≡ recoverValue f n t xs out) × (out ≡ recoverLeft f n t xs out)
-  unfolding recoverValue recoverLeft
-  recover-refused k = (sym (given-refused _ _ _ k), sym (given-refused _ _ _ k))
+  pub recovered-left : r ≡ 0 → {x last : List ℕ} → x ≡ padded xs → last ≡ drop 1 (recover (modulus f) t x) → last ≡ recoverLeft f n t xs out
+  recovered-left z x-is w = w ∙ rw x-is (sym (recover-left f n t xs out (sym e ∙ z)))
+
+  pub refused-value : (r ≡ 0 → ⊥) → 0 ≡ recoverValue f n t xs out
+  unfolding recoverValue
+  refused-value k = sym (given-refused _ _ _ (λ z. k (e ∙ z)))
+
+  pub refused-left : (r ≡ 0 → ⊥) → out ≡ recoverLeft f n t xs out
+  unfolding recoverLeft
+  refused-left k = sym (given-refused _ _ _ (λ z. k (e ∙ z)))

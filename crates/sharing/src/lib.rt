@@ -5,13 +5,9 @@ pub mod secret;
 pub mod setting;
 
 ghost use mathlib.Core.Path.{_≡_};
-ghost use mathlib.Core.Bool.{_&&_};
-ghost use mathlib.Core.List.{List};
-ghost use Prim.Native.Nat.{ℕ};
-ghost use lib.Dec.{eqb};
-ghost use lib.ListN.{length};
 ghost use Rattle.model.specs.Fields as Fields;
-ghost use Rattle.model.specs.Entries.{fitted, shareNumber, shareLeft, recoverNumber, recoverValue, recoverLeft};
+ghost use Rattle.model.specs.Refusing.{firstFailed};
+ghost use Rattle.model.specs.Entries.{shareTests, shareNumber, shareLeft, recoverTests, recoverNumber, recoverValue, recoverLeft};
 use field::table;
 
 // What recover answers: the paper's number, and the secret, 0 where it refuses.
@@ -36,7 +32,7 @@ pub fn share(
     if number == 0 {
         let p = table::modulus(field as usize);
         let row = polynomial::share_row(p, n as usize, secret, coefficients);
-        rows::put_shares(shares, row, n as usize);
+        rows::put_shares(shares, 0, row, n as usize);
     }
     number
 }
@@ -58,19 +54,24 @@ pub fn recover(field: u32, n: u32, t: u32, row: &[u32], coefficients: &mut [u32]
 
 // The number that share answers, of a lent list of the given length.
 fn share_number(field: u32, n: u32, t: u32, secret: u32, coefficients: &[u32], lent: usize) -> u32
-    ensures { λ r. ⌜ ((out : List ℕ) → length out ≡ lent → r ≡ shareNumber field n t secret (now (coefficients .entry)) out) ⌝ }
+    ensures { λ r. ⌜ r ≡ firstFailed (shareTests field n t secret (now (coefficients .entry)) lent) ⌝ }
 {
-    let number = fit_number(field, n, t, coefficients.len(), t, lent, n);
+    let number = setting_number(field, n, t);
     if number != 0 {
         return number;
     }
+    if coefficients.len() != t as usize {
+        return 4;
+    }
+    if lent != n as usize {
+        return 4;
+    }
     let p = table::modulus(field as usize);
-    if secret < p {
-        if rows::all_below(p, coefficients) {
-            0
-        } else {
-            5
-        }
+    if p <= secret {
+        return 5;
+    }
+    if rows::all_below(p, coefficients) {
+        0
     } else {
         5
     }
@@ -78,11 +79,17 @@ fn share_number(field: u32, n: u32, t: u32, secret: u32, coefficients: &[u32], l
 
 // The number that recover answers, of a lent list of the given length.
 fn recover_number(field: u32, n: u32, t: u32, row: &[u32], lent: usize) -> u32
-    ensures { λ r. ⌜ ((out : List ℕ) → length out ≡ lent → r ≡ recoverNumber field n t (now (row .entry)) out) ⌝ }
+    ensures { λ r. ⌜ r ≡ firstFailed (recoverTests field n t (now (row .entry)) lent) ⌝ }
 {
-    let number = fit_number(field, n, t, row.len(), n, lent, t);
+    let number = setting_number(field, n, t);
     if number != 0 {
         return number;
+    }
+    if row.len() != n as usize {
+        return 4;
+    }
+    if lent != t as usize {
+        return 4;
     }
     let p = table::modulus(field as usize);
     if rows::all_below(p, row) {
@@ -96,22 +103,15 @@ fn recover_number(field: u32, n: u32, t: u32, row: &[u32], lent: usize) -> u32
     }
 }
 
-// 2, 3, 4 or 0: the field, the parties, and the lengths of two lists, a and b, that should be i and j.
-fn fit_number(field: u32, n: u32, t: u32, a: usize, i: u32, b: usize, j: u32) -> u32
-    ensures { λ r. ⌜ r ≡ fitted field n t (eqb a i && eqb b j) 0 ⌝ }
+// 2, 3 or 0.
+pub fn setting_number(field: u32, n: u32, t: u32) -> u32
+    ensures { λ r. ⌜ r ≡ firstFailed (Fields.settingTests field n t) ⌝ }
 {
-    if 3 < field {
-        return 2;
+    let number = table::field_number(field);
+    if number != 0 {
+        return number;
     }
-    if parties(n, t) {
-        if a == i as usize {
-            if b == j as usize { 0 } else { 4 }
-        } else {
-            4
-        }
-    } else {
-        3
-    }
+    if parties(n, t) { 0 } else { 3 }
 }
 
 // Whether n parties may share with threshold t.

@@ -42,7 +42,7 @@ pub fn share_row(p: u32, n: usize, constant: u32, coefficients: &[u32]) -> Row
 
 // The first e shares less c, each divided by its party's number: what is left when the constant term c is taken off.
 fn take_off(field: usize, e: usize, row: Row, c: u32) -> Row
-    requires { ⌜ (field < 4) × (e ≤ 7) ⌝ }
+    requires { ⌜ Fields.InUse field × (e ≤ 7) ⌝ }
     ensures { λ r. ⌜ r .shares ≡ Rows.row e (λ j. Ring.mul (Fields.modulus field) (Ring.sub (Fields.modulus field) (getD (row .shares) j 0) c) (Fields.inverse (Fields.modulus field) (suc j))) ⌝ }
 {
     let p = table::modulus(field);
@@ -61,7 +61,7 @@ fn take_off(field: usize, e: usize, row: Row, c: u32) -> Row
 
 // The t coefficients after the constant term go to the lent list. Each turn takes the last coefficient off and finds the next.
 pub fn put_coefficients(field: usize, t: usize, row: Row, constant: u32, out: &mut [u32])
-    requires { ⌜ (field < 4) × (t ≤ 3) × (constant ≡ Sharing.secret (Fields.modulus field) t (row .shares)) × (length (now out) ≡ t) ⌝ }
+    requires { ⌜ Fields.InUse field × (t ≤ 3) × (constant ≡ Sharing.secret (Fields.modulus field) t (row .shares)) × (length (now out) ≡ t) ⌝ }
     ensures { λ _. ⌜ now (out .exit) ≡ drop 1 (Sharing.recover (Fields.modulus field) t (row .shares)) ⌝ }
 {
     let mut rest = row;

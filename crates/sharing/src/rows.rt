@@ -1,12 +1,13 @@
 // Rows by value: seven cells, of which the first n are the shares of parties 1 to n and the others 0.
 ghost use mathlib.Core.Path.{_≡_};
-ghost use Prim.Native.Nat.{_+_, _*_, _≤_, _<_};
-ghost use lib.ListN.{length, take};
-ghost use Rattle.algebra.specs.Ring as Ring;
+ghost use Prim.Native.Nat.{_+_, _*_, _≤_};
+ghost use lib.ListN.{length, take, drop};
 ghost use Rattle.algebra.specs.Lists as Lists;
 ghost use Rattle.algebra.specs.Rows as Rows;
-ghost use Rattle.model.specs.Fields as Fields;
 ghost use Rattle.model.specs.Bytes as Bytes;
+ghost use Rattle.model.specs.Steps as Steps;
+ghost use Rattle.sharing.specs.Settings.{settingOf, Fitting};
+use crate::setting::Setting;
 use field::arithmetic;
 
 pub struct Row {
@@ -41,20 +42,6 @@ pub fn gather(xs: &[u32]) -> Row
     Row { shares }
 }
 
-fn wide(x: u8) -> u32
-    ensures { λ r. ⌜ (r ≡ x) × (r < 256) ⌝ }
-{
-    x as u32
-}
-
-// A little-endian number of 4 bytes.
-pub fn read_word(s: &[u8], i: usize) -> u32
-    requires { ⌜ i + 4 ≤ length (now s) ⌝ }
-    ensures { λ r. ⌜ r ≡ Bytes.number 4 (now (s .entry)) i ⌝ }
-{
-    wide(s[i]) + 256 * (wide(s[i + 1]) + 256 * (wide(s[i + 2]) + 256 * wide(s[i + 3])))
-}
-
 // A row of n shares of 4 bytes, from place i on.
 pub fn read_row(s: &[u8], n: usize, i: usize) -> Row
     requires { ⌜ (n ≤ 7) × (i + 4 * n ≤ length (now s)) ⌝ }
@@ -63,73 +50,121 @@ pub fn read_row(s: &[u8], n: usize, i: usize) -> Row
     let mut shares = [0u32; 7];
     let mut j = 0;
     while j < n {
-        shares[j] = read_word(s, i + 4 * j);
+        shares[j] = words::word(s, i + 4 * j);
         j += 1;
     }
     Row { shares }
 }
 
-// The n shares go to the start of the lent part.
-pub fn put_shares(part: &mut [u32], row: Row, n: usize)
-    requires { ⌜ (n ≤ 7) × (n ≤ length (now part)) ⌝ }
-    ensures { λ _. ⌜ now (part .exit) ≡ Lists.over (take n (row .shares)) (now (part .entry)) ⌝ }
+// Row k of a list of cells, seven to a row.
+pub fn cell_row(cells: &[u32], k: usize) -> Row
+    requires { ⌜ 7 * k + 7 ≤ length (now cells) ⌝ }
+    ensures { λ r. ⌜ r .shares ≡ take 7 (drop (7 * k) (now (cells .entry))) ⌝ }
+{
+    let i = 7 * k;
+    Row {
+        shares: [
+            cells[i],
+            cells[i + 1],
+            cells[i + 2],
+            cells[i + 3],
+            cells[i + 4],
+            cells[i + 5],
+            cells[i + 6],
+        ],
+    }
+}
+
+// The row's first n shares go to the list, from a place on.
+pub fn put_shares(list: &mut [u32], at: usize, row: Row, n: usize)
+    requires { ⌜ (n ≤ 7) × (at + n ≤ length (now list)) ⌝ }
+    ensures { λ _. ⌜ now (list .exit) ≡ Lists.ontoAt at (take n (row .shares)) (now (list .entry)) ⌝ }
 {
     let mut j = 0;
     while j < n {
-        part[j] = row.shares[j];
+        list[at + j] = row.shares[j];
         j += 1;
     }
 }
 
-pub fn add_rows(p: u32, n: usize, a: Row, b: Row) -> Row
-    requires { ⌜ Fields.Modulus p × (n ≤ 7) ⌝ }
-    ensures { λ r. ⌜ r .shares ≡ Rows.on (Ring.add p) n (a .shares) (b .shares) ⌝ }
+pub fn add_rows(setting: Setting, a: Row, b: Row) -> Row
+    requires { ⌜ Fitting setting ⌝ }
+    ensures { λ r. ⌜ r .shares ≡ Steps.plus (settingOf setting) (a .shares) (b .shares) ⌝ }
 {
     let mut shares = [0u32; 7];
     let mut j = 0;
-    while j < n {
-        shares[j] = arithmetic::add(p, a.shares[j], b.shares[j]);
+    while j < setting.n {
+        shares[j] = arithmetic::add(setting.p, a.shares[j], b.shares[j]);
         j += 1;
     }
     Row { shares }
 }
 
-pub fn sub_rows(p: u32, n: usize, a: Row, b: Row) -> Row
-    requires { ⌜ Fields.Modulus p × (n ≤ 7) ⌝ }
-    ensures { λ r. ⌜ r .shares ≡ Rows.on (Ring.sub p) n (a .shares) (b .shares) ⌝ }
+pub fn sub_rows(setting: Setting, a: Row, b: Row) -> Row
+    requires { ⌜ Fitting setting ⌝ }
+    ensures { λ r. ⌜ r .shares ≡ Steps.minus (settingOf setting) (a .shares) (b .shares) ⌝ }
 {
     let mut shares = [0u32; 7];
     let mut j = 0;
-    while j < n {
-        shares[j] = arithmetic::sub(p, a.shares[j], b.shares[j]);
+    while j < setting.n {
+        shares[j] = arithmetic::sub(setting.p, a.shares[j], b.shares[j]);
         j += 1;
     }
     Row { shares }
 }
 
 // A row times a public value.
-pub fn scale_row(p: u32, n: usize, c: u32, a: Row) -> Row
-    requires { ⌜ Fields.Modulus p × (n ≤ 7) ⌝ }
-    ensures { λ r. ⌜ r .shares ≡ Rows.on (λ x _. Ring.mul p c x) n (a .shares) (a .shares) ⌝ }
+pub fn scale_row(setting: Setting, c: u32, a: Row) -> Row
+    requires { ⌜ Fitting setting ⌝ }
+    ensures { λ r. ⌜ r .shares ≡ Steps.times (settingOf setting) c (a .shares) ⌝ }
 {
     let mut shares = [0u32; 7];
     let mut j = 0;
-    while j < n {
-        shares[j] = arithmetic::mul(p, c, a.shares[j]);
+    while j < setting.n {
+        shares[j] = arithmetic::mul(setting.p, c, a.shares[j]);
         j += 1;
     }
     Row { shares }
 }
 
 // The row whose every share is v.
-pub fn constant_row(n: usize, v: u32) -> Row
-    requires { ⌜ n ≤ 7 ⌝ }
-    ensures { λ r. ⌜ r .shares ≡ Rows.row n (λ _. v) ⌝ }
+pub fn constant_row(setting: Setting, v: u32) -> Row
+    requires { ⌜ Fitting setting ⌝ }
+    ensures { λ r. ⌜ r .shares ≡ Steps.constant (settingOf setting) v ⌝ }
 {
     let mut shares = [0u32; 7];
     let mut j = 0;
-    while j < n {
+    while j < setting.n {
         shares[j] = v;
+        j += 1;
+    }
+    Row { shares }
+}
+
+// a + c·b, in one pass: what products and spelled numbers are made of.
+pub fn add_scaled(setting: Setting, a: Row, c: u32, b: Row) -> Row
+    requires { ⌜ Fitting setting ⌝ }
+    ensures { λ r. ⌜ r .shares ≡ Steps.plus (settingOf setting) (a .shares) (Steps.times (settingOf setting) c (b .shares)) ⌝ }
+{
+    let mut shares = [0u32; 7];
+    let mut j = 0;
+    while j < setting.n {
+        let x = arithmetic::mul(setting.p, c, b.shares[j]);
+        shares[j] = arithmetic::add(setting.p, a.shares[j], x);
+        j += 1;
+    }
+    Row { shares }
+}
+
+// a + v, in one pass.
+pub fn add_public(setting: Setting, a: Row, v: u32) -> Row
+    requires { ⌜ Fitting setting ⌝ }
+    ensures { λ r. ⌜ r .shares ≡ Steps.plus (settingOf setting) (a .shares) (Steps.constant (settingOf setting) v) ⌝ }
+{
+    let mut shares = [0u32; 7];
+    let mut j = 0;
+    while j < setting.n {
+        shares[j] = arithmetic::add(setting.p, a.shares[j], v);
         j += 1;
     }
     Row { shares }

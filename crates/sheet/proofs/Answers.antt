@@ -1,44 +1,117 @@
--- What reading answers: a frame and the number 0, or a number that is not 0.
+-- What `header_number`, `read_header` and `read_sheet` answer, by the tests of header, limits, length and rows.
 -- Assumes nothing.
-use mathlib.Core.Path.{_≡_, sym, ap, subst, _∙_}
-use mathlib.Core.List.{List}
-use Prim.Native.Nat.{ℕ, _<_}
+use mathlib.Core.Path.{_≡_, refl, sym, ap, subst, _∙_}
+use mathlib.Core.Bool.{Bool, true, false}
+use mathlib.Core.List.{List, _++_, append-assoc}
+use Prim.Native.Nat.{ℕ, _+_, _*_, _≤_}
 use native.Mathlib.Omega.{arith}
-use Rattle.sheet.specs.Framed.{Framed}
-use Rattle.sheet.specs.Reading.{numberOf}
+use borrow.Author.Tests.{eq-eqb, ne-eqb}
+use lib.Dec.{T, eqb, eqb→eq}
+use lib.ListN.{length}
+use Rattle.algebra.proofs.Tests.{and-left}
+use Rattle.model.specs.Fields.{fieldTests, settingTests}
+use Rattle.model.specs.Refusing.{firstFailed}
+use Rattle.model.specs.Sheet.{Header, headerOf, headerSize, settingOf, limits, impliedLength, inputIn, dealIn, dealRows, rowsAt, all, headerTests, limitTests, lengthTests, rowTests, sheetTests, Permitted}
+use Rattle.model.proofs.Lengths.{header-numbered, header-read}
+use Rattle.model.proofs.Trying.{numbered, holding, all-hold, front-passes, passes, fails, nothing-left, first-decide, others-decide, told}
+use Rattle.model.specs.Deal.{Setting, Row, Deal}
+use Rattle.sharing.specs.Settings.{Fitting}
+use Rattle.sheet.specs.Framed.{settingIn, inputsOf, dealOf, Headed, Framed}
+use Rattle.sheet.specs.Reading.{Reads}
+use Rattle.sheet.proofs.Headers.{end-is, rows-are, setting-is, inputs-are, deal-is, modulus-in, bits-in}
 use Rattle.sheet.specs.declared.frame.Frame.{Frame}
 use Rattle.sheet.specs.declared.header.Read.{Read}
 use Rattle.sheet.specs.declared.header.Read.the-variants.{Sheet, Refused}
 
--- what `read_header` and `read_sheet` ensure of an answer r, by the number of s
-abbrev pub Answer : List ℕ → ℕ → Read → Type 0
-Answer s number r =
-    (numberOf r ≡ number) × ((f : Frame) → r ≡ Sheet f → Framed s f) × ((k : ℕ) → r ≡ Refused k → 0 < k)
+-- 2 and 3, of a header that was read
+pub setting-read : (s : List ℕ) {h : Header} {r : ℕ} → h ≡ headerOf s → r ≡ firstFailed (settingTests (h .field) (h .n) (h .t))
+    → r ≡ firstFailed (settingTests (headerOf s .field) (headerOf s .n) (headerOf s .t))
+setting-read s q e = e ∙ ap (λ (h : Header). firstFailed (settingTests (h .field) (h .n) (h .t))) q
 
--- the frame of an answer, or another where it has none; and whether it has one
-abbrev frameOr : Frame → Read → Frame
-frameOr other (Sheet f) = f
-frameOr other (Refused number) = other
+-- where 1, 2 and 3 do not refuse
+module _ (s : List ℕ) {n : ℕ} (e : n ≡ firstFailed (headerTests s)) (z : n ≡ 0) where
+  pub header-long : headerSize (headerOf s) ≤ length s
+  header-long = header-read s e z .long
 
-abbrev frames : Read → ℕ
-frames (Sheet f) = 1
-frames (Refused number) = 0
+  module _ {h : Header} (q : h ≡ headerOf s) {a : Bool} (l : a ≡ limits h) where
+    pub header-permitted : a ≡ true → Permitted h
+    header-permitted t = let R = header-read s e z in record { field = rw q (R .field); people = rw q (R .people); counts = rw (told l t) tt }
 
-pub refused : {s : List ℕ} {k number : ℕ} → (k ≡ 0 → ⊥) → k ≡ number → Answer s number (Refused k)
-refused {k = k} z e = (e, λ f q. absurd (z (ap numberOf q)), λ m q. positive m (sym (ap numberOf q)))
-  where
-    positive : (m : ℕ) → m ≡ k → 0 < m
-    positive m q = omega arith
+    limits-decide : {r : ℕ} → r ≡ firstFailed (limitTests h) → r ≡ firstFailed (headerTests s ++ limitTests (headerOf s))
+    limits-decide k = others-decide (headerTests s) _ (header-numbered s) e z (rw q at k)
 
-pub accepted : {s : List ℕ} {f : Frame} {number : ℕ} → Framed s f → 0 ≡ number → Answer s number (Sheet f)
-accepted {s} {f} F e = (e, λ g q. subst (Framed s) (ap (frameOr f) q) F, λ k q. differ (ap frames q))
-  where
-    differ : {X : Type 0} → _≡_ {A = ℕ} 1 0 → X
-    differ q = absurd (omega arith)
+    pub within-limits : a ≡ true → 0 ≡ firstFailed (headerTests s ++ limitTests (headerOf s))
+    within-limits t = limits-decide (unfold limitTests in passes 4 _ (told l t) nothing-left)
 
--- an answer that is a refusal has a number
-pub not-zero : {s : List ℕ} {number k : ℕ} {r : Read} → Answer s number r → r ≡ Refused k → number ≡ 0 → ⊥
-not-zero {number = number} {k} A q z = go (A .2 k q) (sym (ap numberOf q) ∙ A .0)
-  where
-    go : 0 < k → k ≡ number → ⊥
-    go h e = omega arith
+    pub over-limits : a ≡ false → 4 ≡ firstFailed (headerTests s ++ limitTests (headerOf s))
+    over-limits t = limits-decide (unfold limitTests in fails 4 _ (told l t))
+
+-- a frame of the header that was read
+pub headed-read : (s : List ℕ) {h : Header} {f : Frame} → h ≡ headerOf s → Headed h f → Headed (headerOf s) f
+headed-read s {f = f} q H = subst (λ (h : Header). Headed h f) q H
+
+-- The length, by a frame, and a test over all rows.
+module _ {h : Header} {f : Frame} (H : Headed h f) (s : List ℕ) where
+  pub length-right : length s ≡ f .triple + 4 * f .n * 3 * f .triples → eqb (length s) (impliedLength h) ≡ true
+  length-right e = eq-eqb _ _ (e ∙ end-is H)
+
+  pub length-wrong : (length s ≡ f .triple + 4 * f .n * 3 * f .triples → ⊥) → eqb (length s) (impliedLength h) ≡ false
+  length-wrong k = ne-eqb _ _ (λ e. k (e ∙ sym (end-is H)))
+
+  pub rows-told : (g : Row → Bool) {a b : Bool} → a ≡ all g (rowsAt s (f .n) (f .input) (f .inputs + f .l * f .masks + 3 * f .triples)) → a ≡ b
+      → all g (inputsOf s f ++ dealRows (dealOf s f)) ≡ b
+  rows-told g e q = rw (rows-are H s) (told e q)
+
+  -- what is asked of a setting
+  pub setting-fits : Fitting (record { p = f .p; l = f .l; n = f .n; t = f .t })
+  setting-fits = record { modulus = modulus-in H; parties = H .parties .most; threshold = omega (arith, H .parties); bits = bits-in H }
+
+-- The answers of a whole sheet, by those of its header and of its body: the header refuses, the body does, or nothing does.
+module _ (s : List ℕ) where
+  abbrev header : List (Bool × ℕ)
+  header = headerTests s ++ limitTests (headerOf s)
+
+  abbrev body : Setting → List Row → Deal → List (Bool × ℕ)
+  body S input d = lengthTests (headerOf s) s ++ rowTests S input d
+
+  first-numbered : T (numbered header)
+  unfolding fieldTests settingTests headerTests limitTests numbered
+  first-numbered = tt
+
+  all-tests : sheetTests s ≡ header ++ body (settingOf (headerOf s)) (inputIn (headerOf s) s) (dealIn (headerOf s) s)
+  unfolding sheetTests
+  all-tests = sym (append-assoc (headerTests s) (limitTests (headerOf s)) _)
+
+  module _ {r : Read} (A : Reads header (Headed (headerOf s)) r) where
+    pub header-refuses : {k : ℕ} → r ≡ Refused k → Reads (sheetTests s) (Framed s) r
+    header-refuses {k} e =
+        let B : Reads header (Headed (headerOf s)) (Refused k) = rw e at A in
+        rw e (rw all-tests (first-decide header _ (B .0) (λ z. omega (arith, B .1))), B .1)
+
+    module _ {f : Frame} (e : r ≡ Sheet f) where
+      B : Reads header (Headed (headerOf s)) (Sheet f)
+      B = rw e at A
+
+      pub frame-read : Headed (headerOf s) f
+      frame-read = B .1
+
+      pub long-read : headerSize (headerOf s) ≤ length s
+      long-read = header-long s refl (front-passes (headerTests s) _ (header-numbered s) (sym (B .0)))
+
+      module _ {n : ℕ} (k : n ≡ firstFailed (body (settingIn f) (inputsOf s f) (dealOf s f))) where
+        pub body-decides : n ≡ firstFailed (sheetTests s)
+        body-decides =
+            rw (all-tests, setting-is frame-read, inputs-are frame-read s, deal-is frame-read s)
+            (others-decide header (body (settingIn f) (inputsOf s f) (dealOf s f)) first-numbered (B .0) refl k)
+
+        pub nothing-refuses : n ≡ 0 → 0 ≡ firstFailed (sheetTests s)
+        nothing-refuses z = sym z ∙ body-decides
+
+        pub whole-read : n ≡ 0 → Framed s f
+        unfolding lengthTests rowTests numbered holding
+        whole-read z =
+            let t = all-hold 4 (body (settingIn f) (inputsOf s f) (dealOf s f)) tt (sym k ∙ z) in
+            record {
+              headed = frame-read;
+              whole = eqb→eq (length s) (impliedLength (headerOf s)) (and-left (eqb (length s) (impliedLength (headerOf s))) true t) ∙ sym (end-is frame-read);
+            }

@@ -1,18 +1,23 @@
--- The refusals 1 to 4, and the frame of a header that they pass.
+-- The numbers of a header, the frame of one that is permitted, and what a frame says of its header.
 -- Assumes nothing.
-use mathlib.Core.Path.{_≡_, refl, ap, _∙_}
-use mathlib.Core.Bool.{true, false}
-use mathlib.Core.List.{List}
+use mathlib.Core.Path.{_≡_, refl, sym, ap₂, _∙_}
+use mathlib.Core.Bool.{false, _&&_}
+use mathlib.Core.List.{List, _++_}
 use Prim.Native.Nat.{ℕ, _+_, _*_, _≤_, _<_}
-use borrow.Author.Tests.{lt-ltb, le-ltb, le-leb, lt-leb, eq-eqb, ne-eqb}
-use lib.Dec.{T}
-use lib.ListN.{length, getD}
+use native.Mathlib.Nat.{mul-le-mul}
+use native.Mathlib.Omega.{arith}
+use borrow.Author.Tests.{le-leb, lt-leb}
+use lib.Dec.{leb, le→leb}
+use lib.ListN.{getD}
+use Rattle.algebra.proofs.Tests.{and-both}
 use Rattle.model.specs.Bytes.{number}
-use Rattle.model.specs.Fields.{modulus, bits, largestK, Parties, parties}
-use Rattle.model.specs.Sheet.{Header, headerOf, limits, impliedLength}
-use Rattle.model.proofs.Lengths.{fitting}
-use Rattle.sheet.specs.Framed.{Framed}
-use Rattle.sheet.specs.Reading.{headerNumber}
+use Rattle.model.specs.Deal.{Row, Deal}
+use Rattle.model.specs.Fields.{Modulus, modulus, bits, largestK}
+use Rattle.model.specs.Sheet.{Header, headerOf, headerSize, maskBits, largestIn, settingOf, limits, impliedLength, inputIn, dealIn, dealRows, rowsAt, Permitted}
+use Rattle.model.proofs.SheetDeal.{all-rows}
+use Rattle.model.proofs.Lengths.{header-field, mask-bits-most, fitting, length-most}
+use Rattle.sheet.specs.Framed.{settingIn, inputsOf, dealOf, Headed}
+use Rattle.sheet.specs.declared.frame.Frame.{Frame}
 
 pub header-is : (s : List ℕ) {field n t inputs masks triples script : ℕ} → field ≡ getD s 0 0 → n ≡ getD s 1 0 → t ≡ getD s 2 0 → inputs ≡ number 2 s 3
     → masks ≡ number 2 s 5 → triples ≡ number 2 s 7 → script ≡ number 2 s 9
@@ -20,76 +25,111 @@ pub header-is : (s : List ℕ) {field n t inputs masks triples script : ℕ} →
 unfolding headerOf
 header-is s a b c d e f g = λ i. record { field = a i; n = b i; t = c i; inputs = d i; masks = e i; triples = f i; script = g i }
 
-module _ (h : Header) (f : h .field < 4) (P : Parties (h .n) (h .t)) (t : T (limits h)) {p l k : ℕ} (ep : p ≡ modulus (h .field)) (el : l ≡ bits (h .field))
-    (ek : k ≡ largestK (h .field)) where
-  pub frame-is : (s : List ℕ) → h ≡ headerOf s → length s ≡ impliedLength h → Framed s (record {
-    p = p;
-    l = l;
-    largest = k;
-    n = h .n;
-    t = h .t;
-    inputs = h .inputs;
-    masks = h .masks;
-    triples = h .triples;
-    script = h .script;
-    input = 11 + h .script;
-    mask = 11 + h .script + 4 * h .n * h .inputs;
-    triple = 11 + h .script + 4 * h .n * h .inputs + 4 * h .n * l * h .masks;
-  })
-  unfolding impliedLength
-  frame-is s q e =
-      let F = fitting h f (P .most) t in
+-- the frame of a permitted header
+pub frame-is : (h : Header) {p l k : ℕ} → Permitted h → p ≡ modulus (h .field) → l ≡ bits (h .field) → k ≡ largestK (h .field) → Headed h (record {
+  p = p;
+  l = l;
+  largest = k;
+  n = h .n;
+  t = h .t;
+  inputs = h .inputs;
+  masks = h .masks;
+  triples = h .triples;
+  script = h .script;
+  input = 11 + h .script;
+  mask = 11 + h .script + 4 * h .n * h .inputs;
+  triple = 11 + h .script + 4 * h .n * h .inputs + 4 * h .n * l * h .masks;
+})
+unfolding headerSize maskBits largestIn
+frame-is h P ep el ek =
+    let F = fitting h P in
+    record {
+      in-use = P .field;
+      p-is = ep;
+      l-is = el;
+      k-is = ek;
+      n-is = refl;
+      t-is = refl;
+      inputs-is = refl;
+      masks-is = refl;
+      triples-is = refl;
+      script-is = refl;
+      parties = P .people;
+      inputs-most = F .inputs-most;
+      masks-most = F .masks-most;
+      triples-most = F .triples-most;
+      script-most = F .script-most;
+      inputs-place = refl;
+      masks-place = refl;
+      triples-place = refl;
+    }
+
+-- what a frame says of its header
+module _ {h : Header} {f : Frame} (H : Headed h f) where
+  pub setting-is : settingOf h ≡ settingIn f
+  setting-is = λ i. record { p = sym (H .p-is) i; l = sym (H .l-is) i; n = sym (H .n-is) i; t = sym (H .t-is) i }
+
+  -- input, deal and all rows
+  module _ (s : List ℕ) where
+    pub inputs-are : inputIn h s ≡ inputsOf s f
+    unfolding inputIn
+    inputs-are = rw (H .inputs-place, H .n-is, H .inputs-is, H .script-is)
+
+    pub deal-is : dealIn h s ≡ dealOf s f
+    unfolding dealIn
+    deal-is = rw (H .triples-place, H .masks-place, H .inputs-place, H .n-is, H .l-is, H .inputs-is, H .masks-is, H .triples-is, H .script-is)
+
+    pub rows-are : inputsOf s f ++ dealRows (dealOf s f) ≡ rowsAt s (f .n) (f .input) (f .inputs + f .l * f .masks + 3 * f .triples)
+    rows-are =
+        let e : f .inputs + f .l * f .masks + 3 * f .triples ≡ f .inputs + (f .l * f .masks + 3 * f .triples) = omega arith in
+        ap₂ (λ (x : List Row) (d : Deal). x ++ dealRows d) (sym inputs-are) (sym deal-is) ∙ all-rows h s
+        ∙ rw (e, H .inputs-place, H .n-is, H .l-is, H .inputs-is, H .masks-is, H .triples-is, H .script-is)
+
+  pub modulus-in : Modulus (f .p)
+  modulus-in = rw (H .p-is) (header-field h (H .in-use) .modulus-is)
+
+  pub bits-in : f .l ≤ 31
+  bits-in = rw (H .l-is) (mask-bits-most h (H .in-use))
+
+  pub mask-rows-in : f .l * f .masks ≤ 496
+  mask-rows-in = mul-le-mul {n₂ = 31} {m₂ = 16} bits-in (H .masks-most)
+
+  permitted : Permitted h
+  unfolding limits
+  permitted =
       record {
-        listed = rw (← q) f;
-        p-is = ep ∙ ap (λ (x : Header). modulus (x .field)) q;
-        l-is = el ∙ ap (λ (x : Header). bits (x .field)) q;
-        k-is = ek ∙ ap (λ (x : Header). largestK (x .field)) q;
-        n-is = ap (λ (x : Header). x .n) q;
-        t-is = ap (λ (x : Header). x .t) q;
-        inputs-is = ap (λ (x : Header). x .inputs) q;
-        masks-is = ap (λ (x : Header). x .masks) q;
-        triples-is = ap (λ (x : Header). x .triples) q;
-        script-is = ap (λ (x : Header). x .script) q;
-        parties = P;
-        inputs-most = F .inputs-most;
-        masks-most = F .masks-most;
-        triples-most = F .triples-most;
-        script-most = F .script-most;
-        inputs-place = refl;
-        masks-place = refl;
-        triples-place = refl;
-        whole = rw el e;
+        field = H .in-use;
+        people = rw (H .n-is, H .t-is) at (H .parties);
+        counts =
+            rw (← H .inputs-is, ← H .masks-is, ← H .triples-is, ← H .script-is)
+            (and-both (leb (f .inputs) 64 && leb (f .masks) 16 && leb (f .triples) 512) (leb (f .script) 1024)
+            (and-both (leb (f .inputs) 64 && leb (f .masks) 16) (leb (f .triples) 512)
+            (and-both (leb (f .inputs) 64) (leb (f .masks) 16) (le→leb (f .inputs) 64 (H .inputs-most)) (le→leb (f .masks) 16 (H .masks-most)))
+            (le→leb (f .triples) 512 (H .triples-most)))
+            (le→leb (f .script) 1024 (H .script-most)));
       }
 
-  pub end-is : 11 + h .script + 4 * h .n * h .inputs + 4 * h .n * l * h .masks + 4 * h .n * 3 * h .triples ≡ impliedLength h
+  pub end-is : f .triple + 4 * f .n * 3 * f .triples ≡ impliedLength h
   unfolding impliedLength
-  end-is = rw el
+  end-is = rw (H .triples-place, H .masks-place, H .inputs-place, H .n-is, H .l-is, H .inputs-is, H .masks-is, H .triples-is, H .script-is)
 
--- the number, test by test
-pub refused-1 : (s : List ℕ) → length s < 11 → 1 ≡ headerNumber s
-unfolding headerNumber
-refused-1 s l = rw (lt-leb 11 (length s) l)
+  pub end-most : f .triple + 4 * f .n * 3 * f .triples ≤ 59723
+  end-most = rw end-is (length-most h permitted)
 
-module _ (s : List ℕ) {h : Header} (q : h ≡ headerOf s) (l : 11 ≤ length s) where
-  pub refused-2 : 4 ≤ h .field → 2 ≡ headerNumber s
-  unfolding headerNumber
-  refused-2 f = rw (← q, le-leb 11 (length s) l, le-ltb (h .field) 4 f)
+-- the limits, test by test
+module _ (h : Header) where
+  pub inputs-over : 64 < h .inputs → false ≡ limits h
+  unfolding limits
+  inputs-over a = rw (lt-leb (h .inputs) 64 a)
 
-  module _ (f : h .field < 4) where
-    pub refused-3 : parties (h .n) (h .t) ≡ false → 3 ≡ headerNumber s
-    unfolding headerNumber
-    refused-3 P = rw (← q, le-leb 11 (length s) l, lt-ltb (h .field) 4 f, P)
+  pub masks-over : h .inputs ≤ 64 → 16 < h .masks → false ≡ limits h
+  unfolding limits
+  masks-over a b = rw (le-leb (h .inputs) 64 a, lt-leb (h .masks) 16 b)
 
-    module _ (P : parties (h .n) (h .t) ≡ true) where
-      pub refused-limits : limits h ≡ false → 4 ≡ headerNumber s
-      unfolding headerNumber
-      refused-limits t = rw (← q, le-leb 11 (length s) l, lt-ltb (h .field) 4 f, P, t)
+  pub triples-over : h .inputs ≤ 64 → h .masks ≤ 16 → 512 < h .triples → false ≡ limits h
+  unfolding limits
+  triples-over a b c = rw (le-leb (h .inputs) 64 a, le-leb (h .masks) 16 b, lt-leb (h .triples) 512 c)
 
-      module _ (t : limits h ≡ true) where
-        pub refused-length : (length s ≡ impliedLength h → ⊥) → 4 ≡ headerNumber s
-        unfolding headerNumber
-        refused-length e = rw (← q, le-leb 11 (length s) l, lt-ltb (h .field) 4 f, P, t, ne-eqb (length s) (impliedLength h) e)
-
-        pub not-refused : length s ≡ impliedLength h → 0 ≡ headerNumber s
-        unfolding headerNumber
-        not-refused e = rw (← q, le-leb 11 (length s) l, lt-ltb (h .field) 4 f, P, t, eq-eqb (length s) (impliedLength h) e)
+  pub script-decides : h .inputs ≤ 64 → h .masks ≤ 16 → h .triples ≤ 512 → leb (h .script) 1024 ≡ limits h
+  unfolding limits
+  script-decides a b c = rw (le-leb (h .inputs) 64 a, le-leb (h .masks) 16 b, le-leb (h .triples) 512 c)

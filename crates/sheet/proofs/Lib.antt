@@ -3,4 +3,3 @@ pub mod Words
 pub mod Spelling
 pub mod Headers
 pub mod Answers
-pub mod Refusals

@@ -1,31 +1,42 @@
--- The paper, "The sheet": a frame holds what the header of a sheet of the right length says.
+-- The paper, "The sheet": a frame holds what a header says, and where the parts of a sheet stand.
 -- Assumes nothing.
 use mathlib.Core.Path.{_≡_}
 use mathlib.Core.List.{List}
-use Prim.Native.Nat.{ℕ, _+_, _*_, _≤_, _<_}
+use Prim.Native.Nat.{ℕ, _+_, _*_, _≤_}
 use lib.ListN.{length}
-use Rattle.model.specs.Fields.{modulus, bits, largestK, Parties}
-use Rattle.model.specs.Steps.{Setting}
-use Rattle.model.specs.Sheet.{headerOf}
+use Rattle.model.specs.Fields.{InUse, Parties}
+use Rattle.model.specs.Deal.{Setting, Row, Deal}
+use Rattle.model.specs.Sheet.{Header, headerOf, headerSize, maskBits, largestIn, settingOf, rowsAt, masksFrom, triplesFrom}
+use Rattle.sharing.specs.declared.setting.Setting as Declared
 use Rattle.sheet.specs.declared.frame.Frame.{Frame}
 
--- a frame's p, ℓ, n and t
+-- a frame's p, ℓ, n and t, as the code's setting and as the paper's
+abbrev pub settingFrom : Frame → Declared.Setting
+settingFrom f = record { p = f .p; l = f .l; n = f .n; t = f .t }
+
 abbrev pub settingIn : Frame → Setting
 settingIn f = record { p = f .p; l = f .l; n = f .n; t = f .t }
 
--- The frame f of a sheet s that 1 to 4 do not refuse: the header's numbers, and the places where input rows, masks and triples start.
-pub record Framed (s : List ℕ) (f : Frame) : Type 0 where
+-- input and deal of a sheet, at the places of its frame
+abbrev pub inputsOf : List ℕ → Frame → List Row
+inputsOf s f = rowsAt s (f .n) (f .input) (f .inputs)
+
+abbrev pub dealOf : List ℕ → Frame → Deal
+dealOf s f = record { masks = masksFrom s (f .n) (f .l) (f .mask) (f .masks); triples = triplesFrom s (f .n) (f .triple) (f .triples) }
+
+-- The frame f of a header h that 2 and 3 do not refuse, nor 4 for a count: its numbers, and the places where input rows, masks and triples start.
+pub record Headed (h : Header) (f : Frame) : Type 0 where
   -- the header's numbers
-  pub listed : headerOf s .field < 4
-  pub p-is : f .p ≡ modulus (headerOf s .field)
-  pub l-is : f .l ≡ bits (headerOf s .field)
-  pub k-is : f .largest ≡ largestK (headerOf s .field)
-  pub n-is : f .n ≡ headerOf s .n
-  pub t-is : f .t ≡ headerOf s .t
-  pub inputs-is : f .inputs ≡ headerOf s .inputs
-  pub masks-is : f .masks ≡ headerOf s .masks
-  pub triples-is : f .triples ≡ headerOf s .triples
-  pub script-is : f .script ≡ headerOf s .script
+  pub in-use : InUse (h .field)
+  pub p-is : f .p ≡ settingOf h .p
+  pub l-is : f .l ≡ maskBits h
+  pub k-is : f .largest ≡ largestIn h
+  pub n-is : f .n ≡ h .n
+  pub t-is : f .t ≡ h .t
+  pub inputs-is : f .inputs ≡ h .inputs
+  pub masks-is : f .masks ≡ h .masks
+  pub triples-is : f .triples ≡ h .triples
+  pub script-is : f .script ≡ h .script
   -- 3 and 4 do not refuse
   pub parties : Parties (f .n) (f .t)
   pub inputs-most : f .inputs ≤ 64
@@ -33,7 +44,11 @@ pub record Framed (s : List ℕ) (f : Frame) : Type 0 where
   pub triples-most : f .triples ≤ 512
   pub script-most : f .script ≤ 1024
   -- the places
-  pub inputs-place : f .input ≡ 11 + f .script
+  pub inputs-place : f .input ≡ headerSize h + f .script
   pub masks-place : f .mask ≡ f .input + 4 * f .n * f .inputs
   pub triples-place : f .triple ≡ f .mask + 4 * f .n * f .l * f .masks
+
+-- The frame f of a sheet s that 1 to 4 do not refuse: it is as long as its header implies.
+pub record Framed (s : List ℕ) (f : Frame) : Type 0 where
+  pub headed : Headed (headerOf s) f
   pub whole : length s ≡ f .triple + 4 * f .n * 3 * f .triples

@@ -1,8 +1,12 @@
--- The paper's header and number for what the code reads.
+-- The paper's header for the one that the code reads, and what a reading answers.
 -- Assumes nothing.
+use mathlib.Core.Path.{_≡_}
+use mathlib.Core.Bool.{Bool}
 use mathlib.Core.List.{List}
-use Prim.Native.Nat.{ℕ}
+use Prim.Native.Nat.{ℕ, _<_}
+use Rattle.model.specs.Refusing.{firstFailed}
 use Rattle.model.specs.Sheet as Paper
+use Rattle.sheet.specs.declared.frame.Frame.{Frame}
 use Rattle.sheet.specs.declared.header.Header.{Header}
 use Rattle.sheet.specs.declared.header.Read.{Read}
 use Rattle.sheet.specs.declared.header.Read.the-variants.{Sheet, Refused}
@@ -25,6 +29,7 @@ abbrev pub numberOf : Read → ℕ
 numberOf (Sheet f) = 0
 numberOf (Refused number) = number
 
--- the refusals of a header: 1 to 4, or 0
-unfoldable pub headerNumber : List ℕ → ℕ
-headerNumber s = Paper.headerTried s 0
+-- what a reading answers: a frame of which something holds where no test refuses, or the number of the first that does
+abbrev pub Reads : List (Bool × ℕ) → (Frame → Type 0) → Read → Type 0
+Reads tests Is (Sheet f) = (0 ≡ firstFailed tests) × Is f
+Reads tests Is (Refused number) = (number ≡ firstFailed tests) × (0 < number)

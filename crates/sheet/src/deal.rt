@@ -1,19 +1,24 @@
 // The refusals 7 and 8: "A mask is well formed when its ℓ secrets are bits and the number they spell is below p; a triple when c's secret is a
 // times b modulo p."
 ghost use mathlib.Core.Path.{_≡_};
-ghost use Prim.Native.Nat.{ℕ, _+_, _*_, _≤_};
+ghost use Prim.Native.Nat.{_+_, _*_, _≤_};
 ghost use lib.ListN.{length};
-ghost use Rattle.model.specs.Fields as Fields;
 ghost use Rattle.model.specs.Sheet as Sheet;
+ghost use Rattle.sharing.specs.Settings.{settingOf, Fitting};
 use field::arithmetic;
 use sharing::rows;
 use sharing::secret;
+use sharing::setting::Setting;
 
-// Whether the mask whose l rows stand from place i on is well formed: v is what its first k bits spell.
-fn good_mask(p: u32, l: usize, n: usize, t: usize, s: &[u8], i: usize) -> bool
-    requires { ⌜ Fields.Modulus p × (l ≤ 31) × (n ≤ 7) × (t ≤ 3) × (i + 4 * n * l ≤ length (now s)) ⌝ }
-    ensures { λ r. ⌜ r ≡ Sheet.goodMask (record { p = p; l = l; n = n; t = t }) (Sheet.rowsAt (now (s .entry)) n i l) ⌝ }
+// Whether the mask whose rows stand from place i on is well formed: v is what its first k bits spell.
+fn good_mask(setting: Setting, s: &[u8], i: usize) -> bool
+    requires { ⌜ Fitting setting × (i + 4 * setting .n * setting .l ≤ length (now s)) ⌝ }
+    ensures { λ r. ⌜ r ≡ Sheet.goodMask (settingOf setting) (Sheet.rowsAt (now (s .entry)) (setting .n) i (setting .l)) ⌝ }
 {
+    let p = setting.p;
+    let l = setting.l;
+    let n = setting.n;
+    let t = setting.t;
     let mut v: u32 = 0;
     let mut power: u32 = 1;
     let mut from = i;
@@ -32,15 +37,16 @@ fn good_mask(p: u32, l: usize, n: usize, t: usize, s: &[u8], i: usize) -> bool
 }
 
 // Whether each of so many masks, from place i on, is well formed.
-pub fn good_masks(p: u32, l: usize, n: usize, t: usize, s: &[u8], i: usize, count: usize) -> bool
-    requires { ⌜ Fields.Modulus p × (l ≤ 31) × (n ≤ 7) × (t ≤ 3) × (i + 4 * n * l * count ≤ length (now s)) ⌝ }
-    ensures { λ r. ⌜ r ≡ Sheet.all (Sheet.goodMask (record { p = p; l = l; n = n; t = t })) (Sheet.masksFrom (now (s .entry)) n l i count) ⌝ }
+pub fn good_masks(setting: Setting, s: &[u8], i: usize, count: usize) -> bool
+    requires { ⌜ Fitting setting × (i + 4 * setting .n * setting .l * count ≤ length (now s)) ⌝ }
+    ensures { λ r. ⌜ r ≡ Sheet.all (Sheet.goodMask (settingOf setting)) (Sheet.masksFrom (now (s .entry)) (setting .n) (setting .l) i count) ⌝ }
 {
+    let size = 4 * setting.n * setting.l;
     let mut from = i;
     let mut k = 0;
     while k < count {
-        if good_mask(p, l, n, t, s, from) {
-            from = from + 4 * n * l;
+        if good_mask(setting, s, from) {
+            from = from + size;
             k += 1;
         } else {
             return false;
@@ -50,10 +56,13 @@ pub fn good_masks(p: u32, l: usize, n: usize, t: usize, s: &[u8], i: usize, coun
 }
 
 // Whether the triple whose three rows stand from place i on is well formed.
-fn good_triple(p: u32, n: usize, t: usize, s: &[u8], i: usize) -> bool
-    requires { ⌜ Fields.Modulus p × (n ≤ 7) × (t ≤ 3) × (i + 4 * n * 3 ≤ length (now s)) ⌝ }
-    ensures { λ r. ⌜ ((l : ℕ) → r ≡ Sheet.goodTriple (record { p = p; l = l; n = n; t = t }) (Sheet.tripleAt (now (s .entry)) n i)) ⌝ }
+fn good_triple(setting: Setting, s: &[u8], i: usize) -> bool
+    requires { ⌜ Fitting setting × (i + 4 * setting .n * 3 ≤ length (now s)) ⌝ }
+    ensures { λ r. ⌜ r ≡ Sheet.goodTriple (settingOf setting) (Sheet.tripleAt (now (s .entry)) (setting .n) i) ⌝ }
 {
+    let p = setting.p;
+    let n = setting.n;
+    let t = setting.t;
     let a = secret::secret_of(p, t, rows::read_row(s, n, i));
     let b = secret::secret_of(p, t, rows::read_row(s, n, i + 4 * n));
     let c = secret::secret_of(p, t, rows::read_row(s, n, i + 4 * n * 2));
@@ -61,15 +70,16 @@ fn good_triple(p: u32, n: usize, t: usize, s: &[u8], i: usize) -> bool
 }
 
 // Whether each of so many triples, from place i on, is well formed.
-pub fn good_triples(p: u32, n: usize, t: usize, s: &[u8], i: usize, count: usize) -> bool
-    requires { ⌜ Fields.Modulus p × (n ≤ 7) × (t ≤ 3) × (i + 4 * n * 3 * count ≤ length (now s)) ⌝ }
-    ensures { λ r. ⌜ ((l : ℕ) → r ≡ Sheet.all (Sheet.goodTriple (record { p = p; l = l; n = n; t = t })) (Sheet.triplesFrom (now (s .entry)) n i count)) ⌝ }
+pub fn good_triples(setting: Setting, s: &[u8], i: usize, count: usize) -> bool
+    requires { ⌜ Fitting setting × (i + 4 * setting .n * 3 * count ≤ length (now s)) ⌝ }
+    ensures { λ r. ⌜ r ≡ Sheet.all (Sheet.goodTriple (settingOf setting)) (Sheet.triplesFrom (now (s .entry)) (setting .n) i count) ⌝ }
 {
+    let size = 4 * setting.n * 3;
     let mut from = i;
     let mut k = 0;
     while k < count {
-        if good_triple(p, n, t, s, from) {
-            from = from + 4 * n * 3;
+        if good_triple(setting, s, from) {
+            from = from + size;
             k += 1;
         } else {
             return false;

@@ -1,3 +1,8 @@
+// A frame.
+ghost use mathlib.Core.Path.{_≡_};
+ghost use Rattle.sheet.specs.Framed.{settingFrom};
+use sharing::setting::Setting;
+
 // What an accepted header says, by value: the field's numbers, the parties, how many input rows, masks and triples there are, the script's
 // length, and the places in the sheet's bytes of the first input row, the first mask and the first triple.
 pub struct Frame {
@@ -13,4 +18,17 @@ pub struct Frame {
     pub input: usize,
     pub mask: usize,
     pub triple: usize,
+}
+
+impl Frame {
+    pub fn setting(self) -> Setting
+        ensures { λ r. ⌜ r ≡ settingFrom self ⌝ }
+    {
+        Setting {
+            p: self.p,
+            l: self.l,
+            n: self.n,
+            t: self.t,
+        }
+    }
 }

@@ -1,16 +1,17 @@
-// The header's numbers, and the refusals 1 to 4.
+// The header: its numbers, the refusals 1 to 3 and that of its counts, and the frame that it gives.
 ghost use mathlib.Core.Path.{_≡_};
-ghost use mathlib.Core.List.{List};
-ghost use Prim.Native.Nat.{ℕ, _+_, _*_, _≤_, _<_};
-ghost use lib.Dec.{T};
+ghost use mathlib.Core.List.{_++_};
+ghost use Prim.Native.Nat.{_+_, _≤_, _<_};
 ghost use lib.ListN.{length};
-ghost use Rattle.model.specs.Bytes as Bytes;
-ghost use Rattle.model.specs.Fields as Fields;
+ghost use Rattle.model.specs.Refusing.{firstFailed};
 ghost use Rattle.model.specs.Sheet as Sheet;
-ghost use Rattle.sheet.specs.Framed.{Framed};
-ghost use Rattle.sheet.specs.Reading.{told, numberOf, headerNumber};
+ghost use Rattle.sheet.specs.Framed.{Headed};
+ghost use Rattle.sheet.specs.Reading.{told, Reads};
 use crate::frame::Frame;
 use field::table;
+
+// "That header is 11 bytes."
+const HEADER_SIZE: usize = 11;
 
 // What reading a sheet finds: its frame, or the paper's number of a refusal.
 pub enum Read {
@@ -18,7 +19,7 @@ pub enum Read {
     Refused(u32),
 }
 
-// The numbers of the first 11 bytes, as they stand.
+// The numbers of the header's bytes, as they stand.
 pub struct Header {
     pub field: u32,
     pub n: u32,
@@ -29,38 +30,18 @@ pub struct Header {
     pub script: usize,
 }
 
-fn wide(x: u8) -> u32
-    ensures { λ r. ⌜ (r ≡ x) × (r < 256) ⌝ }
-{
-    x as u32
-}
-
-fn byte(x: u8) -> usize
-    ensures { λ r. ⌜ (r ≡ x) × (r < 256) ⌝ }
-{
-    x as usize
-}
-
-// A little-endian number of 2 bytes.
-fn read_count(s: &[u8], i: usize) -> usize
-    requires { ⌜ i + 2 ≤ length (now s) ⌝ }
-    ensures { λ r. ⌜ r ≡ Bytes.number 2 (now (s .entry)) i ⌝ }
-{
-    byte(s[i]) + 256 * byte(s[i + 1])
-}
-
 fn read_numbers(s: &[u8]) -> Header
     requires { ⌜ 11 ≤ length (now s) ⌝ }
     ensures { λ r. ⌜ told r ≡ Sheet.headerOf (now (s .entry)) ⌝ }
 {
     Header {
-        field: wide(s[0]),
-        n: wide(s[1]),
-        t: wide(s[2]),
-        inputs: read_count(s, 3),
-        masks: read_count(s, 5),
-        triples: read_count(s, 7),
-        script: read_count(s, 9),
+        field: words::wide(s[0]),
+        n: words::wide(s[1]),
+        t: words::wide(s[2]),
+        inputs: words::half_word(s, 3) as usize,
+        masks: words::half_word(s, 5) as usize,
+        triples: words::half_word(s, 7) as usize,
+        script: words::half_word(s, 9) as usize,
     }
 }
 
@@ -80,15 +61,15 @@ fn within_limits(h: Header) -> bool
     h.script <= 1024
 }
 
-// The frame of a sheet that has this header and the length that it implies.
+// The frame of a header.
 fn frame_of(h: Header) -> Frame
-    requires { ⌜ (h .field < 4) × Fields.Parties (h .n) (h .t) × T (Sheet.limits (told h)) ⌝ }
-    ensures { λ r. ⌜ ((s : List ℕ) → told h ≡ Sheet.headerOf s → length s ≡ Sheet.impliedLength (told h) → Framed s r) × (r .n ≤ 7) × (r .triple + 4 * r .n * 3 * r .triples ≡ Sheet.impliedLength (told h)) × (Sheet.impliedLength (told h) ≤ 59723) ⌝ }
+    requires { ⌜ Sheet.Permitted (told h) ⌝ }
+    ensures { λ r. ⌜ Headed (told h) r ⌝ }
 {
     let field = h.field as usize;
     let l = table::bits(field) as usize;
     let n = h.n as usize;
-    let input = 11 + h.script;
+    let input = HEADER_SIZE + h.script;
     let mask = input + 4 * n * h.inputs;
     let triple = mask + 4 * n * l * h.masks;
     Frame {
@@ -107,29 +88,29 @@ fn frame_of(h: Header) -> Frame
     }
 }
 
-// The frame of a sheet, or the paper's number of its refusal, 1 to 4, which is never 0.
-pub fn read_header(s: &[u8]) -> Read
-    ensures { λ r. ⌜ (numberOf r ≡ headerNumber (now (s .entry))) × ((f : Frame) → r ≡ Read.Sheet f → Framed (now (s .entry)) f) × ((number : ℕ) → r ≡ Read.Refused number → 0 < number) ⌝ }
+// 1, 2, 3 or 0.
+fn header_number(s: &[u8]) -> u32
+    ensures { λ r. ⌜ r ≡ firstFailed (Sheet.headerTests (now (s .entry))) ⌝ }
 {
-    if s.len() < 11 {
-        return Read::Refused(1);
+    if s.len() < HEADER_SIZE {
+        return 1;
     }
     let h = read_numbers(s);
-    if 3 < h.field {
-        return Read::Refused(2);
+    sharing::setting_number(h.field, h.n, h.t)
+}
+
+// The frame of a sheet's header, or the number of its refusal: 1, 2, 3, or 4 for a count. The length is not looked at.
+pub fn read_header(s: &[u8]) -> Read
+    ensures { λ r. ⌜ Reads (Sheet.headerTests (now (s .entry)) ++ Sheet.limitTests (Sheet.headerOf (now (s .entry)))) (Headed (Sheet.headerOf (now (s .entry)))) r ⌝ }
+{
+    let number = header_number(s);
+    if number != 0 {
+        return Read::Refused(number);
     }
-    if sharing::parties(h.n, h.t) {
-        if within_limits(h) {
-            let f = frame_of(h);
-            if s.len() == f.triple + 4 * f.n * 3 * f.triples {
-                Read::Sheet(f)
-            } else {
-                Read::Refused(4)
-            }
-        } else {
-            Read::Refused(4)
-        }
+    let h = read_numbers(s);
+    if within_limits(h) {
+        Read::Sheet(frame_of(h))
     } else {
-        Read::Refused(3)
+        Read::Refused(4)
     }
 }

@@ -5,38 +5,58 @@ pub mod header;
 pub mod rows;
 
 ghost use mathlib.Core.Path.{_≡_};
-ghost use Prim.Native.Nat.{ℕ, _<_};
+ghost use mathlib.Core.List.{_++_};
+ghost use Rattle.model.specs.Refusing.{firstFailed};
 ghost use Rattle.model.specs.Sheet as Sheet;
-ghost use Rattle.sheet.specs.Framed.{Framed};
-ghost use Rattle.sheet.specs.Reading.{numberOf};
+ghost use Rattle.sheet.specs.Framed.{settingIn, inputsOf, dealOf, Headed, Framed};
+ghost use Rattle.sheet.specs.Reading.{Reads};
 use crate::frame::Frame;
 use crate::header::Read;
+use sharing::setting::Setting;
 
-// The frame of a sheet, or the paper's number of its refusal, 1 to 8, which is never 0.
+// The frame of a sheet, or the paper's number of its refusal, 1 to 8.
 pub fn read_sheet(s: &[u8]) -> Read
-    ensures { λ r. ⌜ (numberOf r ≡ Sheet.sheetNumber (now (s .entry))) × ((f : Frame) → r ≡ Read.Sheet f → Framed (now (s .entry)) f) × ((number : ℕ) → r ≡ Read.Refused number → 0 < number) ⌝ }
+    ensures { λ r. ⌜ Reads (Sheet.sheetTests (now (s .entry))) (Framed (now (s .entry))) r ⌝ }
 {
     let read = header::read_header(s);
     let Read::Sheet(f) = read else {
         return read;
     };
-    let number = rows_number(s, f);
+    let number = body_number(s, f);
     if number != 0 {
         return Read::Refused(number);
     }
     read
 }
 
-// The number of a sheet that 1 to 4 do not refuse: "each over the whole sheet before the next".
+// 4 for the sheet's length, then 5 to 8, or 0.
+fn body_number(s: &[u8], f: Frame) -> u32
+    requires { ⌜ Headed (Sheet.headerOf (now s)) f ⌝ }
+    ensures { λ r. ⌜ r ≡ firstFailed (Sheet.lengthTests (Sheet.headerOf (now (s .entry))) (now (s .entry)) ++ Sheet.rowTests (settingIn f) (inputsOf (now (s .entry)) f) (dealOf (now (s .entry)) f)) ⌝ }
+{
+    if s.len() == f.triple + 4 * f.n * 3 * f.triples {
+        rows_number(s, f)
+    } else {
+        4
+    }
+}
+
+// 5 to 8, or 0: "each over the whole sheet before the next".
 fn rows_number(s: &[u8], f: Frame) -> u32
     requires { ⌜ Framed (now s) f ⌝ }
-    ensures { λ r. ⌜ r ≡ Sheet.sheetNumber (now (s .entry)) ⌝ }
+    ensures { λ r. ⌜ r ≡ firstFailed (Sheet.rowTests (settingIn f) (inputsOf (now (s .entry)) f) (dealOf (now (s .entry)) f)) ⌝ }
 {
+    let setting = Setting {
+        p: f.p,
+        l: f.l,
+        n: f.n,
+        t: f.t,
+    };
     let count = f.inputs + f.l * f.masks + 3 * f.triples;
     if rows::all_below(f.p, f.n, s, f.input, count) {
         if rows::all_sharings(f.p, f.n, f.t, s, f.input, count) {
-            if deal::good_masks(f.p, f.l, f.n, f.t, s, f.mask, f.masks) {
-                if deal::good_triples(f.p, f.n, f.t, s, f.triple, f.triples) {
+            if deal::good_masks(setting, s, f.mask, f.masks) {
+                if deal::good_triples(setting, s, f.triple, f.triples) {
                     0
                 } else {
                     8

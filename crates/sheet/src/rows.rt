@@ -18,7 +18,7 @@ pub fn all_below(p: u32, n: usize, s: &[u8], i: usize, count: usize) -> bool
     let mut from = i;
     let mut k = 0;
     while k < shares {
-        if p <= rows::read_word(s, from) {
+        if p <= words::word(s, from) {
             return false;
         }
         from = from + 4;

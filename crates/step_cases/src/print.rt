@@ -1,7 +1,7 @@
 // A case and its answer on standard output.
 ghost use Prim.Native.Nat.{_*_, _≤_};
 ghost use lib.ListN.{length};
-use crate::words::word;
+use crate::numbers::word;
 use report::lines;
 use report::number::number;
 use report::number::put;

@@ -1,11 +1,9 @@
-pub mod ByColumn
+pub mod Leaving
+pub mod Rooms
+pub mod Powers
 pub mod Products
-pub mod Comparisons
+pub mod Comparing
 pub mod Putting
 pub mod Spelling
-pub mod Maskings
-pub mod Following
-pub mod Cells
-pub mod Endings
 pub mod Remainders
-pub mod Quotients
+pub mod Cuts

@@ -1,29 +1,40 @@
--- A product as the code has it: the rows read, the rows opened, and what is left.
+-- A product as the code has it: the triple read, two rows opened, and the row that is left.
 -- Assumes nothing.
 use mathlib.Core.Path.{_≡_, _∙_}
-use mathlib.Core.List.{List, _++_, append-nil}
-use Prim.Native.Nat.{ℕ, suc, _+_, _*_}
+use mathlib.Core.List.{List, [], _∷_}
+use Prim.Native.Nat.{ℕ, suc, _+_, _*_, _≤_}
 use native.Mathlib.Omega.{arith}
-use lib.ListN.{take}
-use Rattle.algebra.specs.Ring.{sub}
-use Rattle.algebra.specs.Rows.{on}
-use Rattle.model.specs.Sharing.{secret}
+use lib.ListN.{length}
+use Rattle.algebra.specs.Lists.{none, one}
 use Rattle.model.specs.Bytes.{rowAt}
-use Rattle.model.specs.Steps.{Deal, minus, value, beaver, byRows, product}
 use Rattle.model.specs.Sheet.{triplesFrom}
-use Rattle.model.specs.Run.{written}
-use Rattle.steps.specs.Settings.{setting}
+use Rattle.model.specs.Steps.{Row, written, minus, nextTriple, beaver, byRows, product}
+use Rattle.model.proofs.Taking.{Seven, seven-minus}
+use Rattle.model.proofs.Written.{length-written}
+use Rattle.sharing.specs.Settings.{settingOf}
+use Rattle.sharing.specs.declared.setting.Setting.{Setting}
+use Rattle.steps.specs.declared.places.Places.{Places}
+use Rattle.steps.specs.Promises.{Opens, Leaves}
+use Rattle.steps.proofs.Leaving.{log-then}
 
-module _ (p l n t : ℕ) (x y s : List ℕ) (i count : ℕ) (d : Deal) (e : d .triples ≡ triplesFrom s n i (suc count)) where
-  pub opened-is : {a b o q : List ℕ} → a ≡ rowAt s n i → b ≡ rowAt s n (i + 4 * n) → o ≡ on (sub p) n x a → q ≡ on (sub p) n y b
-      → written n (product (setting p l n t) x y d .opened) ≡ take n o ++ take n q
-  unfolding product byRows triplesFrom minus written
-  opened-is ea eb eo eq = rw (e, eo, eq, ea, eb, append-nil)
+-- an opened row is n numbers of the record
+pub one-opened : (n : ℕ) (x : Row) → n ≤ 7 → Seven x → length (written n (x ∷ [])) ≡ n
+one-opened n x h e = length-written n h (one e none) ∙ omega arith
 
-  pub left-is : {a b c o q r : List ℕ} {a1 b1 : ℕ} → a ≡ rowAt s n i → b ≡ rowAt s n (i + 4 * n) → c ≡ rowAt s n (i + 8 * n)
-      → o ≡ on (sub p) n x a → q ≡ on (sub p) n y b → a1 ≡ secret p t o → b1 ≡ secret p t q
-      → r ≡ beaver (setting p l n t) a1 b1 (record { a = a; b = b; c = c }) → r ≡ product (setting p l n t) x y d .left
-  unfolding product byRows triplesFrom minus value
-  left-is ea eb ec eo eq e1 e2 er =
-      let k : i + 8 * n ≡ i + 4 * n * 2 = omega arith in
-      er ∙ rw (e, e1, e2, eo, eq, ea, eb, ec, k)
+pub product-leaves : {s : List ℕ} {S : Setting} {at : Places} (x y : Row) {a b c r : Row} {a1 b1 : ℕ} {log log′ log″ : List ℕ} → S .n ≤ 7
+    → a ≡ rowAt s (S .n) (at .triple) → b ≡ rowAt s (S .n) (at .triple + 4 * S .n) → c ≡ rowAt s (S .n) (at .triple + 8 * S .n)
+    → Opens S (at .log) (minus (settingOf S) x a) a1 log log′ → Opens S (at .log + S .n) (minus (settingOf S) y b) b1 log′ log″
+    → r ≡ beaver (settingOf S) a1 b1 (record { a = a; b = b; c = c }) → Leaves s S at 1 (product (settingOf S) x y) r log log″
+unfolding product byRows
+product-leaves {s} {S} {at} x y {a} {b} {c} {log = log} h ea eb ec A B er d D =
+    rw next
+    (record {
+      row-is = er ∙ rw (A .value-is, B .value-is);
+      log-is = log-then (S .n) (at .log) (minus (settingOf S) x a ∷ []) (minus (settingOf S) y b ∷ []) log (A .log-is) (one-opened (S .n) _ h (seven-minus (settingOf S) h x a)) (B .log-is);
+    })
+  where
+    third : (i n : ℕ) → i + 8 * n ≡ i + 4 * n * 2
+    third i n = omega arith
+
+    next : nextTriple (settingOf S) d ≡ record { a = a; b = b; c = c }
+    next = unfold triplesFrom in let m : 1 + D .more ≡ suc (D .more) = omega arith in rw (D .triples, m, ea, eb, ec, third)

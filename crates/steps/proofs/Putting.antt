@@ -1,86 +1,64 @@
--- Rows of a sheet as cells, one law for each need of the loop that puts them: after k turns k rows stand over the start of the part.
+-- Rows of a sheet as cells, one law for each need of the loop that puts them: after k turns the first k rows of the cells are the sheet's.
 -- Assumes nothing.
-use mathlib.Core.Path.{_≡_, refl, sym, ap, _∙_}
-use mathlib.Core.List.{List, [], _∷_, _++_, append-nil}
+use mathlib.Core.Path.{_≡_, refl, ap, _∙_}
+use mathlib.Core.List.{List, [], _∷_, _++_}
 use Prim.Native.Nat.{ℕ, zero, suc, _+_, _-_, _*_, _≤_, _<_}
 use native.Mathlib.Nat.{mul-le-mul-right}
+use native.Mathlib.Numerals.{add-one}
 use native.Mathlib.Omega.{arith}
-use lib.ListN.{length, take}
-use borrow.Rule.Slice.PartMut.{putMid, midOf}
-use Rattle.algebra.specs.Lists.{over, All, none, one}
-use Rattle.algebra.proofs.Lists.{over-then, length-over}
+use lib.ListN.{length, take, drop, length-drop}
+use lib.Seq.{take-all, take-at}
+use Rattle.algebra.specs.Lists.{onto, ontoAt}
+use Rattle.algebra.proofs.Lists.{onto-at-start, length-onto-at, take-onto-at, drop-onto-at}
 use Rattle.algebra.proofs.Rows.{length-row}
-use Rattle.model.specs.Bytes.{rowAt}
+use Rattle.model.specs.Bytes.{rowAt, sevens}
 use Rattle.model.specs.Sheet.{rowsAt}
-use Rattle.model.specs.Run.{written}
-use Rattle.model.proofs.Taking.{Seven}
 use Rattle.model.proofs.SheetDeal.{rows-add}
-use Rattle.model.proofs.Written.{length-written, written-append}
 
-pub seven-row : (s : List ℕ) (n i : ℕ) → n ≤ 7 → Seven (rowAt s n i)
-unfolding rowAt
-seven-row s n i h = length-row n _ h
+-- a row more
+put-seven : (k : ℕ) (x cells : List ℕ) → length x ≡ 7 → 7 * k + 7 ≤ length cells → sevens (suc k) (ontoAt (7 * k) x cells) ≡ sevens k cells ++ (x ∷ [])
+unfolding sevens
+put-seven zero x cells e h = rw onto-at-start (unfold onto in ap (λ (v : List ℕ). v ∷ []) (take-at x _ 7 e))
+put-seven (suc k) x cells e h =
+    let m : 7 * suc k ≡ 7 + 7 * k = omega arith in
+    let s : 7 ≤ length cells = omega arith in
+    rw (m, take-onto-at 7 (7 * k) x cells s, drop-onto-at 7 (7 * k) x cells s, put-seven k x (drop 7 cells) e (rw length-drop (omega arith)))
 
-pub seven-rows : (s : List ℕ) (n i c : ℕ) → n ≤ 7 → All Seven (rowsAt s n i c)
+put-row : (k : ℕ) (x cells : List ℕ) → length x ≡ 7 → 7 * k + 7 ≤ length cells → sevens (k + 1) (ontoAt (7 * k) x cells) ≡ sevens k cells ++ (x ∷ [])
+put-row k x cells e h = rw add-one (put-seven k x cells e h)
+
+row-last : (s : List ℕ) (n i k : ℕ) → rowsAt s n i (k + 1) ≡ rowsAt s n i k ++ (rowAt s n (i + 4 * n * k) ∷ [])
 unfolding rowsAt
-seven-rows s n i zero h = none
-seven-rows s n i (suc c) h = one (seven-row s n i h) (seven-rows s n (i + 4 * n) c h)
+row-last s n i k = rows-add s n i k 1
 
-pub length-rows : (s : List ℕ) (n i c : ℕ) → length (rowsAt s n i c) ≡ c
-unfolding rowsAt
-length-rows s n i zero = refl
-length-rows s n i (suc c) = ap suc (length-rows s n (i + 4 * n) c)
-
--- one row more
-row-last : (s : List ℕ) (n i k : ℕ) → rowsAt s n i (k + 1) ≡ rowsAt s n i k ++ (rowAt s n (i + k * (4 * n)) ∷ [])
-unfolding rowsAt
-row-last s n i k =
-    let e : 4 * n * k ≡ k * (4 * n) = omega arith in
-    rows-add s n i k 1 ∙ rw e
-
-cells : (s : List ℕ) (n i k : ℕ) → n ≤ 7 → length (written 7 (rowsAt s n i k)) ≡ k * 7
-cells s n i k h = length-written 7 (omega arith) (seven-rows s n i k h) ∙ rw (length-rows s n i k) (omega arith)
-
-pub record Putting (s : List ℕ) (n i count : ℕ) (part₀ : List ℕ) (k from to : ℕ) (part : List ℕ) : Type 0 where
+pub record Putting (s : List ℕ) (n i count : ℕ) (cells₀ cells : List ℕ) (from k : ℕ) : Type 0 where
   pub within : k ≤ count
   pub from-is : from ≡ i + k * (4 * n)
-  pub to-is : to ≡ k * 7
-  pub is : part ≡ over (written 7 (rowsAt s n i k)) part₀
-  pub size : length part ≡ length part₀
+  pub is : sevens k cells ≡ rowsAt s n i k
+  pub kept : length cells ≡ length cells₀
 
-module _ {s : List ℕ} {n i count : ℕ} {part₀ : List ℕ} where
-  pub putting-start : Putting s n i count part₀ 0 i 0 part₀
-  unfolding over written rowsAt
-  putting-start = record { within = omega arith; from-is = omega arith; to-is = refl; is = refl; size = refl }
+module _ {s : List ℕ} {n i count : ℕ} {cells₀ : List ℕ} where
+  pub putting-start : Putting s n i count cells₀ cells₀ i 0
+  unfolding sevens rowsAt
+  putting-start = record { within = omega arith; from-is = omega arith; is = refl; kept = refl }
 
-  pub putting-fits : {k from to : ℕ} {part : List ℕ} → Putting s n i count part₀ k from to part → k < count → from + 4 * n ≤ i + count * (4 * n)
-  putting-fits {k} P h = let m : suc k * (4 * n) ≤ count * (4 * n) = mul-le-mul-right (4 * n) h in omega (arith, P .from-is)
+  module _ {cells : List ℕ} {from k : ℕ} (P : Putting s n i count cells₀ cells from k) where
+    pub putting-fits : k < count → from + 4 * n ≤ i + count * (4 * n)
+    putting-fits h = let m : suc k * (4 * n) ≤ count * (4 * n) = mul-le-mul-right (4 * n) h in omega (arith, P .from-is)
 
-  pub putting-more : {k from to : ℕ} {part x last : List ℕ} → Putting s n i count part₀ k from to part → k < count → n ≤ 7 → count * 7 ≤ length part₀
-      → x ≡ rowAt s n from → last ≡ over (take 7 x) (midOf to (length part - to) part)
-      → Putting s n i count part₀ (k + 1) (from + 4 * n) (to + 7) (putMid to (length part - to) part last)
-  putting-more {k} {from} {to} {part} {x} {last} P h hn room ex el =
-      record {
-        within = omega arith;
-        from-is = omega (arith, P .from-is);
-        to-is = omega (arith, P .to-is);
-        is = both;
-        size = ap length both ∙ length-over _ part₀ (rw (cells s n i (k + 1) hn) (omega arith));
-      }
-    where
-      one-more : written 7 (rowsAt s n i (k + 1)) ≡ written 7 (rowsAt s n i k) ++ take 7 x
-      one-more =
-          ap (written 7) (row-last s n i k) ∙ written-append 7 (rowsAt s n i k) _
-          ∙ ap (λ (v : List ℕ). written 7 (rowsAt s n i k) ++ v) (rw (ex, P .from-is) (alone _))
-        where
-          alone : (y : List ℕ) → written 7 (y ∷ []) ≡ take 7 y
-          alone y = unfold written in append-nil (take 7 y)
+    pub putting-more : {x cells′ : List ℕ} → k < count → n ≤ 7 → 7 * count ≤ length cells₀ → x ≡ rowAt s n from → cells′ ≡ ontoAt (7 * k) (take 7 x) cells
+        → Putting s n i count cells₀ cells′ (from + 4 * n) (k + 1)
+    putting-more {x} {cells′} h hn room ex e =
+        let seven : length x ≡ 7 = ap length ex ∙ (unfold rowAt in length-row n _ hn) in
+        let all : take 7 x ≡ x = take-all 7 x (omega arith) in
+        let put : cells′ ≡ ontoAt (7 * k) x cells = rw all at e in
+        let place : i + 4 * n * k ≡ from = omega (arith, P .from-is) in
+        record {
+          within = omega arith;
+          from-is = omega (arith, P .from-is);
+          is = rw (put, put-row k x cells seven (omega (arith, P .kept)), P .is, row-last s n i k, place, ex);
+          kept = ap length put ∙ length-onto-at (7 * k) x cells (omega (arith, P .kept)) ∙ P .kept;
+        }
 
-      both : putMid to (length part - to) part last ≡ over (written 7 (rowsAt s n i (k + 1))) part₀
-      both =
-          over-then part₀ (written 7 (rowsAt s n i k)) (take 7 x) part last to (P .is) (cells s n i k hn ∙ sym (P .to-is)) el
-          ∙ ap (λ (v : List ℕ). over v part₀) (sym one-more)
-
-  pub putting-end : {k from to : ℕ} {part : List ℕ} → Putting s n i count part₀ k from to part → count ≤ k
-      → part ≡ over (written 7 (rowsAt s n i count)) part₀
-  putting-end {k} P h = let e : k ≡ count = omega (arith, P .within) in rw e at (P .is)
+  pub putting-end : {cells : List ℕ} {from k : ℕ} → Putting s n i count cells₀ cells from k → count ≤ k → sevens count cells ≡ rowsAt s n i count
+  putting-end {k = k} P h = let e : k ≡ count = omega (arith, P .within) in rw e at (P .is)

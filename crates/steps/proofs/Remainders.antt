@@ -1,67 +1,72 @@
--- MOD as the code has it: one opening, then what follows the opened number; and the room that it needs.
+-- MOD as the code has it, from its end to its start: each part leaves what its tree leaves, if the part behind it does.
 -- Assumes nothing.
-use mathlib.Core.Path.{_≡_, sym, ap, _∙_}
-use mathlib.Core.List.{List, _++_, append-assoc}
-use Prim.Native.Nat.{ℕ, _+_, _-_, _*_, _%_, _^_, _≤_, _<_}
-use native.Mathlib.Nat.{mul-le-mul-right}
+use mathlib.Core.Path.{_≡_, refl, _∙_}
+use mathlib.Core.List.{List, [], _∷_}
+use Prim.Native.Nat.{ℕ, zero, suc, _+_, _-_, _^_, _≤_}
 use native.Mathlib.Omega.{arith}
-use borrow.Rule.Slice.PartMut.{putMid, midOf}
-use lib.ListN.{length, take}
-use lib.Pow.{pow-mono}
-use lib.Seq.{length-take-le}
-use Rattle.algebra.specs.Lists.{over}
-use Rattle.algebra.proofs.Lists.{over-then}
-use Rattle.model.specs.Run.{written}
-use Rattle.model.specs.Sharing.{secret}
-use Rattle.model.specs.Sheet.{rowsAt, triplesFrom}
-use Rattle.model.specs.Steps.{Setting, Row, Deal, lessMask, plus, minus, value, nextMask, product, remainder, masked, unmasked}
-use Rattle.model.specs.Parts.{stepC, stepF, stepU0, stepU1, stepG}
-use Rattle.model.proofs.StepLaws.{remainder-is}
+use lib.ListN.{take, drop}
+use Rattle.model.specs.Bytes.{sevens}
+use Rattle.model.specs.Costs.{modTriples}
+use Rattle.model.specs.Steps.{Row, lessMask, plus, minus, constant, spelled, underMask, byRows, stepOf, product, comparison, remainder}
+use Rattle.model.specs.Trees as Trees
 use Rattle.model.proofs.Taking.{seven-plus}
-use Rattle.model.proofs.Written.{written-append}
-use Rattle.steps.specs.Settings.{setting}
-use Rattle.steps.specs.Threes.{three, threeWritten}
-use Rattle.steps.proofs.Cells.{rows-take}
+use Rattle.sharing.specs.Settings.{settingOf}
+use Rattle.sharing.specs.declared.setting.Setting.{Setting}
+use Rattle.steps.specs.declared.places.Places.{Places}
+use Rattle.steps.specs.declared.remainder.Publics.{Publics}
+use Rattle.steps.specs.Places.{pastTriples, pastMask, Bits, Room}
+use Rattle.steps.specs.Promises.{Opens, Leaves, Works, MaskedLeaves}
+use Rattle.steps.specs.Remainders.{publics, MaskBits, fTriples, unmaskedBy, afterU1, afterF, afterC, fromX}
+use Rattle.steps.proofs.Leaving.{log-then, done-leaves, product-then, comparison-then}
+use Rattle.steps.proofs.Products.{one-opened}
 
--- the turns of the three comparisons and the product
-pub spread : (l m x : ℕ) → 1 ≤ m → m ≤ l → (l + 2 * m - 2) * x ≡ (l - 1) * x + (m - 1) * x + (m - 1) * x + x
-spread l m x low high =
-    let e : l + 2 * m - 2 ≡ l - 1 + (m - 1) + (m - 1) + 1 = omega arith in
-    rw e (omega arith)
+-- the low bits
+low-sevens : (m l : ℕ) (cells : List ℕ) → m ≤ l → take m (sevens l cells) ≡ sevens m cells
+unfolding sevens
+low-sevens zero l cells h = refl
+low-sevens (suc m) zero cells h = absurd (omega arith)
+low-sevens (suc m) (suc l) cells h = rw (low-sevens m l (drop 7 cells) (omega arith))
 
-pub power-below : {p : ℕ} (j k : ℕ) → j ≤ k → 2 ^ k < p → 2 ^ j < p
-power-below j k h b = omega (arith, pow-mono {i = j} {j = k} h)
+-- the triples of f, and the others
+triples-of : (l m : ℕ) → 1 ≤ m → m ≤ l → modTriples l m ≡ (l - 1) + fTriples m
+triples-of l m low high = omega arith
 
-pub rows-room : (m l x i : ℕ) {z : ℕ} → m ≤ l → i + l * x ≤ z → i + m * x ≤ z
-rows-room m l x i h b = let e : m * x ≤ l * x = mul-le-mul-right x h in omega arith
+module _ {S : Setting} {m : ℕ} {cells : List ℕ} (L : MaskBits S m cells) where
+  pub low-bits : Bits m cells
+  low-bits = record { some = L .least; there = omega (arith, L .within, L .there) }
 
-value-is : (S : Setting) {c : ℕ} {x y : Row} → x ≡ y → c ≡ secret (S .p) (S .t) x → c ≡ value S y
-unfolding value
-value-is S e h = h ∙ ap (secret (S .p) (S .t)) e
+  pub all-bits : Bits (S .l) cells
+  all-bits = record { some = omega (arith, L .least, L .within); there = L .there }
 
-written-is : (S : Setting) (k m : ℕ) (a : Row) (d : Deal) (n : ℕ) {x : Row} → x ≡ masked S k a d → written n (remainder S k m a d .opened)
-    ≡ take n x ++ ((written n (stepF S k a d .opened) ++ (written n (stepU0 S k m a d .opened) ++ written n (stepU1 S k m a d .opened))) ++ written n (stepG S k m a d .opened))
-unfolding written
-written-is S k m a d n e = rw (remainder-is S k m a d, e, written-append, written-append, written-append, append-assoc, append-assoc)
+  pub f-room : {s log : List ℕ} {at : Places} → Room s log S at (modTriples (S .l) m) → Room s log S at ((S .l - 1) + fTriples m)
+  f-room R = rw (triples-of (S .l) m (L .least) (L .within)) at R
 
-pub remainder-done : (p l n t k m c : ℕ) (a : Row) (s : List ℕ) (mask i : ℕ) (before mid last : List ℕ) {x r : Row} → n ≤ 7 → m ≤ l
-    → ((t : ℕ) (d : Deal) → nextMask (setting p l n t) d ≡ rowsAt s n mask l → x ≡ masked (setting p l n t) k a d)
-    → c ≡ secret p t x → mid ≡ over (take n x) before
-    → ((count : ℕ) (d : Deal) → d .triples ≡ triplesFrom s n i count → l + 2 * m ≤ count + 2
-    → let S = setting p l n t in let bits = rowsAt s n mask l in let x = three S c (c % 2 ^ m) ((c + p) % 2 ^ m) bits (rowsAt s n mask m) d in
-    let g = product S (x .f .left) (minus S (x .u1 .left) (x .u0 .left)) (x .u1 .deal) in
-    (r ≡ unmasked S m c bits (x .f .left) (plus S (x .u0 .left) (g .left)))
-    × (last ≡ over (threeWritten n x ++ written n (g .opened)) (midOf n (length mid - n) mid)))
-    → (count : ℕ) (d : Deal) → nextMask (setting p l n t) d ≡ rowsAt s n mask l → d .triples ≡ triplesFrom s n i count → l + 2 * m ≤ count + 2
-    → (r ≡ remainder (setting p l n t) k m a d .left) × (putMid n (length mid - n) mid last ≡ over (written n (remainder (setting p l n t) k m a d .opened)) before)
-remainder-done p l n t k m c a s mask i before mid last {x} h high em ec e1 eo count d eN e room =
-    let S = setting p l n t in
-    let ex : x ≡ masked S k a d = em t d eN in
-    let ev : c ≡ stepC S k a d = value-is S ex ec in
-    let low : rowsAt s n mask m ≡ take m (nextMask S d) = sym (rows-take s n mask m l high) ∙ ap (take m) (sym eN) in
-    let y = rw (ev, low, ← eN) at (eo count (lessMask d) e room) in
-    let cells : length x ≡ 7 = ap length ex ∙ seven-plus S h _ _ in
-    let seven : length (take n x) ≡ n = length-take-le n x (omega arith) in (
-      y .0 ∙ rw (remainder-is S k m a d),
-      over-then before (take n x) _ mid last n e1 seven (y .1) ∙ ap (λ (v : List ℕ). over v before) (sym (written-is S k m a d n ex)),
-    )
+module _ {s : List ℕ} {S : Setting} {at : Places} {log log′ : List ℕ} {row : Row} where
+  pub u1-leaves : (x : Publics) (low : List Row) (f u0 u1 : Row) {d g u : Row} → S .n ≤ 7 → d ≡ minus (settingOf S) u1 u0
+      → Leaves s S at 1 (product (settingOf S) f d) g log log′ → u ≡ plus (settingOf S) u0 g → row ≡ unmaskedBy S x low f u
+      → Works s S at 1 (afterU1 S x low f u0 u1) row log log′
+  u1-leaves x low f u0 u1 h ed P eu er = product-then h {k = 0} f _ _ (rw ed at P) (rw (er, eu) done-leaves)
+
+  pub c-leaves : (m C : ℕ) (cells : List ℕ) {x : Publics} {f : Row} {log″ : List ℕ} → MaskBits S m cells → x ≡ publics (S .p) m C
+      → Leaves s S at (S .l - 1) (comparison (settingOf S) C (sevens (S .l) cells)) f log log′
+      → Works s S (pastTriples S at (S .l - 1)) (fTriples (x .m)) (afterF S x (sevens (x .m) cells) f) row log′ log″
+      → Works s S at (modTriples (S .l) m) (afterC S m C (sevens (S .l) cells)) row log log″
+  c-leaves m C cells L ex A R =
+      rw (triples-of (S .l) m (L .least) (L .within), low-sevens m (S .l) cells (L .within))
+      (comparison-then (L .fitting .parties) C (S .l) cells _ A (rw ex at R))
+
+  pub mask-leaves : (m : ℕ) (x : Row) (cells : List ℕ) {r o : Row} {c : ℕ} {log″ : List ℕ} → S .n ≤ 7 → r ≡ spelled (settingOf S) (sevens (S .l) cells) → o ≡ plus (settingOf S) x r
+      → Opens S (at .log) o c log log′
+      → Works s S (pastMask S at) (modTriples (S .l) m) (afterC S m c (sevens (S .l) cells)) row log′ log″
+      → MaskedLeaves s S at (sevens (S .l) cells) m (stepOf (settingOf S) (fromX S m x)) row log log″
+  unfolding byRows
+  mask-leaves m x cells {r} {o} h er eo O R d e D =
+      let under : o ≡ underMask (settingOf S) x (sevens (S .l) cells) = eo ∙ rw er in
+      let B = R (lessMask d) (record { more = D .more; triples = D .triples }) in
+      rw (e, ← under, ← O .value-is)
+      (record { row-is = B .row-is; log-is = log-then (S .n) (at .log) (o ∷ []) _ log (O .log-is) (one-opened (S .n) o h (rw eo (seven-plus (settingOf S) h x r))) (B .log-is) })
+
+  pub remainder-leaves : (k m : ℕ) (a : Row) {x : Row} {r r′ : List Row} → x ≡ plus (settingOf S) a (constant (settingOf S) (2 ^ (k - 1))) → r ≡ r′
+      → MaskedLeaves s S at r m (stepOf (settingOf S) (fromX S m x)) row log log′ → MaskedLeaves s S at r′ m (remainder (settingOf S) k m a) row log log′
+  unfolding remainder Trees.remainder
+  remainder-leaves k m a ex er L = rw (ex, er) at L

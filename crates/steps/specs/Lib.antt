@@ -1,3 +1,4 @@
-pub mod Settings
-pub mod Threes
-pub mod Masked
+pub mod Places
+pub mod Promises
+pub mod Remainders
+pub mod Cuts

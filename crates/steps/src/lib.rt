@@ -1,10 +1,8 @@
-// The paper's steps: one column's part in each, and rows over them. Deals are read from a sheet's bytes, and opened shares go to the start of
-// a lent part of the record.
-pub mod columns;
-pub mod compared;
+// The paper's steps, by rows. Masks and triples are read from a sheet's bytes, and opened shares go to the record, both at the next places.
+pub mod bits;
 pub mod comparison;
-pub mod masks;
+pub mod cut;
+pub mod opening;
+pub mod places;
 pub mod product;
-pub mod quotient;
 pub mod remainder;
-pub mod spelled;

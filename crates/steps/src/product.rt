@@ -1,78 +1,54 @@
-// Opening, and MUL over it.
+// MUL.
 ghost use mathlib.Core.Path.{_≡_};
-ghost use Prim.Native.Nat.{ℕ, suc, _+_, _*_, _≤_, _<_};
-ghost use lib.ListN.{length, take};
-ghost use Rattle.algebra.specs.Ring as Ring;
-ghost use Rattle.algebra.specs.Lists as Lists;
-ghost use Rattle.algebra.specs.Rows as Rows;
-ghost use Rattle.model.specs.Fields as Fields;
-ghost use Rattle.model.specs.Sharing as Sharing;
-ghost use Rattle.model.specs.Sheet as Sheet;
+ghost use Prim.Native.Nat.{_+_, _≤_};
+ghost use lib.ListN.{length};
 ghost use Rattle.model.specs.Steps as Steps;
-ghost use Rattle.model.specs.Run.{written};
-ghost use Rattle.steps.specs.Settings.{setting};
-use crate::columns;
+ghost use Rattle.sharing.specs.Settings.{settingOf, Fitting};
+ghost use Rattle.steps.specs.Places.{Room};
+ghost use Rattle.steps.specs.Promises.{Opens, Leaves};
+use crate::opening;
+use crate::places::Places;
+use field::arithmetic;
 use sharing::rows;
 use sharing::rows::Row;
-use sharing::secret;
+use sharing::setting::Setting;
 
-// "Opening: the n shares go to the record, party 1 first, and the value at 0 becomes public." The part starts at the record's next free place.
-pub fn open_row(p: u32, n: usize, t: usize, row: Row, part: &mut [u32]) -> u32
-    requires { ⌜ Fields.Modulus p × (n ≤ 7) × (t ≤ 3) × (n ≤ length (now part)) ⌝ }
-    ensures { λ r. ⌜ (r ≡ Sharing.secret p t (row .shares)) × (now (part .exit) ≡ Lists.over (take n (row .shares)) (now (part .entry))) × (r < p) ⌝ }
+// Opens x − a at a place of the record.
+fn open_difference(setting: Setting, at: usize, log: &mut [u32], x: Row, a: Row) -> u32
+    requires { ⌜ Fitting setting × (at + setting .n ≤ length (now log)) ⌝ }
+    ensures { λ r. ⌜ Opens setting at (Steps.minus (settingOf setting) (x .shares) (a .shares)) r (now (log .entry)) (now (log .exit)) ⌝ }
 {
-    rows::put_shares(part, row, n);
-    secret::secret_of(p, t, row)
+    opening::open_at(setting, at, log, rows::sub_rows(setting, x, a))
 }
 
-// The row left − a, which a product opens.
-fn difference(p: u32, n: usize, left: Row, a: Row) -> Row
-    requires { ⌜ Fields.Modulus p × (n ≤ 7) ⌝ }
-    ensures { λ r. ⌜ r .shares ≡ Rows.on (Ring.sub p) n (left .shares) (a .shares) ⌝ }
+// c + a1·b + b1·a + a1·b1.
+fn beaver(setting: Setting, a1: u32, b1: u32, a: Row, b: Row, c: Row) -> Row
+    requires { ⌜ Fitting setting ⌝ }
+    ensures { λ r. ⌜ r .shares ≡ Steps.beaver (settingOf setting) a1 b1 (record { a = a .shares; b = b .shares; c = c .shares }) ⌝ }
 {
-    let mut shares = [0u32; 7];
-    let mut j = 0;
-    while j < n {
-        shares[j] = columns::opened_share(p, left.shares[j], a.shares[j]);
-        j += 1;
-    }
-    Row { shares }
+    let x = rows::add_scaled(setting, c, a1, b);
+    let y = rows::add_scaled(setting, x, b1, a);
+    rows::add_public(setting, y, arithmetic::mul(setting.p, a1, b1))
 }
 
-// c + a1·b + b1·a + a1·b1, column by column.
-fn beaver(p: u32, n: usize, a1: u32, b1: u32, a: Row, b: Row, c: Row) -> Row
-    requires { ⌜ Fields.Modulus p × (n ≤ 7) ⌝ }
-    ensures { λ r. ⌜ ((l t : ℕ) → r .shares ≡ Steps.beaver (setting p l n t) a1 b1 (record { a = a .shares; b = b .shares; c = c .shares })) ⌝ }
-{
-    let mut shares = [0u32; 7];
-    let mut j = 0;
-    while j < n {
-        shares[j] = columns::product_share(p, a1, b1, a.shares[j], b.shares[j], c.shares[j]);
-        j += 1;
-    }
-    Row { shares }
-}
-
-// MUL: the triple stands at place i of the sheet's bytes, and two openings go to the start of the part.
+// MUL: "takes the next triple, opens a1 = left − a, then b1 = right − b, leaves c + a1·b + b1·a + a1·b1".
 pub fn product(
-    p: u32,
-    n: usize,
-    t: usize,
+    setting: Setting,
+    at: Places,
+    s: &[u8],
+    log: &mut [u32],
     left: Row,
     right: Row,
-    s: &[u8],
-    i: usize,
-    part: &mut [u32],
 ) -> Row
-    requires { ⌜ Fields.Modulus p × (n ≤ 7) × (t ≤ 3) × (i + 12 * n ≤ length (now s)) × (n + n ≤ length (now part)) ⌝ }
-    ensures { λ r. ⌜ ((l count : ℕ) (d : Steps.Deal) → d .triples ≡ Sheet.triplesFrom (now (s .entry)) n i (suc count) → (r .shares ≡ Steps.product (setting p l n t) (left .shares) (right .shares) d .left) × (now (part .exit) ≡ Lists.over (written n (Steps.product (setting p l n t) (left .shares) (right .shares) d .opened)) (now (part .entry)))) ⌝ }
+    requires { ⌜ Room (now s) (now log) setting at 1 ⌝ }
+    ensures { λ r. ⌜ Leaves (now (s .entry)) setting at 1 (Steps.product (settingOf setting) (left .shares) (right .shares)) (r .shares) (now (log .entry)) (now (log .exit)) ⌝ }
 {
+    let n = setting.n;
+    let i = at.triple;
     let a = rows::read_row(s, n, i);
     let b = rows::read_row(s, n, i + 4 * n);
     let c = rows::read_row(s, n, i + 8 * n);
-    let o = difference(p, n, left, a);
-    let q = difference(p, n, right, b);
-    let a1 = open_row(p, n, t, o, part);
-    let b1 = open_row(p, n, t, q, &mut part[n..]);
-    beaver(p, n, a1, b1, a, b, c)
+    let a1 = open_difference(setting, at.log, log, left, a);
+    let b1 = open_difference(setting, at.log + n, log, right, b);
+    beaver(setting, a1, b1, a, b, c)
 }

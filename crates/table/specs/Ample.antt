@@ -15,5 +15,5 @@ pub record Ample (sheet log revealed : List ℕ) (x : Outcome) : Type 0 where
   pub not-25 : x .number ≢ 25
   pub not-26 : x .number ≢ 26
   -- every opened row and every revealed value is there to be printed
-  pub rows : x .openings * headerOf sheet .n ≤ length log
-  pub values : x .values ≤ length revealed
+  pub rows : x .counts .openings * headerOf sheet .n ≤ length log
+  pub values : x .counts .revealed ≤ length revealed

@@ -7,9 +7,9 @@ ghost use Rattle.model.specs.Refusals.{isRun};
 ghost use Rattle.figures.specs.Room.{largestSheet, recordLength, revealedLength};
 ghost use Rattle.machine.specs.Answers.{outcomeOf};
 ghost use Rattle.table.specs.Ample.{Ample};
+use costs::counts::Counts;
 use machine::run;
 use machine::run::Answer;
-use machine::table::Counts;
 use report::lines;
 use report::number::count;
 use report::number::line_end;
@@ -50,19 +50,11 @@ fn run_lent(s: &[u8], log: &mut [u32], revealed: &mut [u32])
     requires { ⌜ (recordLength ≤ length (now log)) × (revealedLength ≤ length (now revealed)) ⌝ }
 {
     let answer = run_ample(s, log, revealed);
-    let table = answer.table;
-    let spent = table.spent;
+    let spent = answer.table.spent;
     if is_run(answer.number) {
-        run_lines(s, spent, log, revealed);
+        run_lines(s, spent.counts, log, revealed);
     }
-    lines::end(
-        answer.number,
-        answer.place,
-        spent.inputs,
-        spent.masks,
-        spent.triples,
-        spent.openings,
-    );
+    lines::end(answer.number, answer.place, spent.counts);
 }
 
 // The run with buffers that none outgrows.
@@ -87,7 +79,7 @@ fn run_lines(s: &[u8], spent: Counts, log: &[u32], revealed: &[u32])
     let Read::Sheet(f) = header::read_header(s) else {
         return;
     };
-    let field = field_number(s[0]);
+    let field = words::wide(s[0]);
     field_line(f);
     lines::opened(f.n, spent.openings, log);
     lines::revealed(field, spent.revealed, revealed);
@@ -98,11 +90,4 @@ fn field_line(f: Frame) {
     count(b" parties ", f.n);
     count(b" threshold ", f.t);
     line_end();
-}
-
-// The sheet's first byte, which is the field's number.
-fn field_number(x: u8) -> u32
-    ensures { λ r. ⌜ r ≡ x ⌝ }
-{
-    x as u32
 }

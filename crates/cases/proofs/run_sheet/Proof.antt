@@ -18,19 +18,8 @@ array-borrow-prefix-revealed c = search needs
 slice-aggregate-run-lent-2 : tie.Need-slice-aggregate-run-lent-2
 slice-aggregate-run-lent-2 c = sym (length-take-le _ _ (array-borrow-prefix-revealed (c .before)))
 
-run-lent-requires : tie.Need-run-lent-requires
-run-lent-requires c κs = search needs
-
-returns : tie.Need-returns
-returns c = search needs
-
 pub run-sheet-spec : {M : Type 1} → statement M
 run-sheet-spec =
     tie.close
-    (tie.spec
-    array-borrow-prefix-log
-    slice-aggregate-run-lent
-    array-borrow-prefix-revealed
-    slice-aggregate-run-lent-2
-    run-lent-requires
-    returns)
+    (tie.spec array-borrow-prefix-log slice-aggregate-run-lent array-borrow-prefix-revealed slice-aggregate-run-lent-2 (λ c κs. search needs)
+    (λ c. search needs))

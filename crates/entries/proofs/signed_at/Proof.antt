@@ -6,30 +6,6 @@ use Rattle.field.proofs.Signs.{held-is}
 use Rattle.entries.proofs.signed_at.Statement.{statement}
 use Rattle.entries.proofs.signed_at.Tie as tie
 
-word-requires : tie.Need-word-requires
-word-requires c κs = search needs
-
-cast-high : tie.Need-cast-high
-cast-high c = search needs
-
-mul-m : tie.Need-mul-m
-mul-m c = search needs
-
-word-requires-2 : tie.Need-word-requires-2
-word-requires-2 c κs = search needs
-
-cast-m : tie.Need-cast-m
-cast-m c = search needs
-
-add-m : tie.Need-add-m
-add-m c = search needs
-
-word-requires-3 : tie.Need-word-requires-3
-word-requires-3 c κs = search needs
-
-signed-requires : tie.Need-signed-requires
-signed-requires c κs = search needs
-
 returns : tie.Need-returns
 returns c =
     let high = c .before .before .before .word .ensures in
@@ -40,13 +16,5 @@ returns c =
 pub signed-at-spec : {M : Type 1} → statement M
 signed-at-spec =
     tie.close
-    (tie.spec
-    word-requires
-    cast-high
-    mul-m
-    word-requires-2
-    cast-m
-    add-m
-    word-requires-3
-    signed-requires
-    returns)
+    (tie.spec (λ c κs. search needs) (λ c. search needs) (λ c. search needs) (λ c κs. search needs) (λ c. search needs) (λ c. search needs)
+    (λ c κs. search needs) (λ c κs. search needs) returns)

@@ -1,26 +1,27 @@
--- `decode` meets its contract: each return is a law of its own.
+-- `decode` meets its contract: the value where nothing refuses, else 0.
 -- Assumes nothing.
-use native.Mathlib.Omega.{arith}
-use borrow.Author.Needs.{needs, sfits-of}
-use Rattle.field.proofs.Signs.{held-is}
-use Rattle.field.proofs.Answers.{decode-no-field, decode-large, decode-in}
+use mathlib.Core.Path.{sym, _∙_}
+use borrow.Author.Needs.{needs}
+use Rattle.model.proofs.CodeEntries.{Decodes, decode-accepted}
+use Rattle.field.proofs.Answers.{decode-refused, decode-done}
 use Rattle.field.proofs.decode.Statement.{statement}
 use Rattle.field.proofs.decode.Tie as tie
 
-returns : tie.Need-returns
-returns c = decode-no-field _ _ (c .if1 .taken)
+accepted : (c : tie.Else1) → Decodes (c .before .before .args .field) (c .before .before .args .v)
+accepted c = decode-accepted _ _ (sym (c .before .decode-number .ensures) ∙ c .if1 .left)
 
 modulus-requires : tie.Need-modulus-requires
-modulus-requires c κs = search needs
+modulus-requires c κs = accepted c .field
 
 read-back-requires : tie.Need-read-back-requires
-read-back-requires c κs = search needs
-
-returns-2 : tie.Need-returns-2
-returns-2 c = decode-in _ _ (omega arith) (omega arith) (cc (held-is (sfits-of (c .read-back .ok))))
-
-returns-3 : tie.Need-returns-3
-returns-3 c = decode-large _ _ (omega arith) (omega arith)
+read-back-requires c κs = (c .modulus .ensures .1, rw (c .modulus .ensures .0) (accepted (c .before) .below))
 
 pub decode-spec : {M : Type 1} → statement M
-decode-spec = tie.close (tie.spec returns modulus-requires read-back-requires returns-2 returns-3)
+decode-spec =
+    tie.close
+    (tie.spec
+    (λ c κs. search needs)
+    (λ c. search (needs, decode-refused))
+    modulus-requires
+    read-back-requires
+    (λ c. search (needs, decode-done)))

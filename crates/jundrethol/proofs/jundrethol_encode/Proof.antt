@@ -7,9 +7,6 @@ use borrow.Author.Needs.{needs}
 use Rattle.jundrethol.proofs.jundrethol_encode.Statement.{statement}
 use Rattle.jundrethol.proofs.jundrethol_encode.Tie as tie
 
-encode-requires : tie.Need-encode-requires
-encode-requires c κs = search needs
-
 returns : tie.Need-returns
 returns c =
     let e = c .encode .ensures in
@@ -17,4 +14,4 @@ returns c =
     (e .0 ∙ ap (encodeNumber _ _) is, e .1 ∙ ap (encodeValue _ _) is)
 
 pub jundrethol-encode-spec : {M : Type 1} → statement M
-jundrethol-encode-spec = tie.close (tie.spec encode-requires returns)
+jundrethol-encode-spec = tie.close (tie.spec (λ c κs. search needs) returns)

@@ -41,11 +41,8 @@ returns-2 c = sym (many _ _ (omega arith) (c .if2 .taken))
 returns-3 : tie.Need-returns-3
 returns-3 c = sym (none _ _ (omega arith) (omega arith) (omega arith))
 
-sub-result : tie.Need-sub-result
-sub-result c = search needs
-
 returns-4 : tie.Need-returns-4
 returns-4 c = sym (half _ _ (omega arith) (omega arith) (omega arith))
 
 pub parties-spec : {M : Type 1} → statement M
-parties-spec = tie.close (tie.spec returns returns-2 returns-3 sub-result returns-4)
+parties-spec = tie.close (tie.spec returns returns-2 returns-3 (λ c. search needs) returns-4)

@@ -22,18 +22,9 @@ ample s log revealed h k e =
       is = e;
       not-25 = λ q. o .0 (sym n ∙ q);
       not-26 = λ q. o .1 (sym n ∙ q);
-      rows = rw (ap (λ (x : Outcome). x .openings) e) (held .0);
-      values = rw (ap (λ (x : Outcome). x .values) e) (held .1);
+      rows = rw (ap (λ (x : Outcome). x .counts .openings) e) (held .0);
+      values = rw (ap (λ (x : Outcome). x .counts .revealed) e) (held .1);
     }
-
-run-requires : tie.Need-run-requires
-run-requires c κs = search needs
-
-same-length : tie.Need-same-length
-same-length c = search needs
-
-same-length-2 : tie.Need-same-length-2
-same-length-2 c = search needs
 
 returns : tie.Need-returns
 returns c =
@@ -42,4 +33,4 @@ returns c =
     ample _ _ _ (called .pre .0) (called .pre .1) (ran .run .ensures)
 
 pub run-ample-spec : {M : Type 1} → statement M
-run-ample-spec = tie.close (tie.spec run-requires same-length same-length-2 returns)
+run-ample-spec = tie.close (tie.spec (λ c κs. search needs) (λ c. search needs) (λ c. search needs) returns)

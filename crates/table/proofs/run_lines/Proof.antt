@@ -1,57 +1,34 @@
 -- `run_lines` is safe: a sheet with a header has a first byte, and its n is the one that the record's rows are counted with.
 -- Assumes nothing.
 use borrow.Author.Needs.{needs}
-use native.Mathlib.Omega.{arith}
+use Rattle.model.specs.Sheet.{headerSize}
+use Rattle.sheet.proofs.Answers.{frame-read, long-read}
 use Rattle.table.proofs.run_lines.Statement.{statement}
 use Rattle.table.proofs.run_lines.Tie as tie
 
-read-header-requires : tie.Need-read-header-requires
-read-header-requires c κs = search needs
-
-enum-known-f : tie.Need-enum-known-f
-enum-known-f c = search needs
-
-enum-told : tie.Need-enum-told
-enum-told c = search needs
-
-returns : tie.Need-returns
-returns c = search needs
-
-shared-slice-read-field-number : tie.Need-shared-slice-read-field-number
-shared-slice-read-field-number c =
-    let r = c .before .before .before .before .read-header .ensures in
-    let F = r .1 _ (c .before .before .f .given .1) in
-    omega (arith, F .inputs-place, F .masks-place, F .triples-place, F .whole)
-
-field-number-requires : tie.Need-field-number-requires
-field-number-requires c κs = search needs
-
-field-line-requires : tie.Need-field-line-requires
-field-line-requires c κs = search needs
+shared-slice-read-wide : tie.Need-shared-slice-read-wide
+unfolding headerSize
+shared-slice-read-wide c =
+    let l = long-read _ (c .before .before .before .before .read-header .ensures) (c .before .before .f .given .1) in
+    search needs
 
 opened-requires : tie.Need-opened-requires
 opened-requires c κs =
     let found = c .before .before .before .before in
-    let F = found .before .before .read-header .ensures .1 _ (found .f .given .1) in
-    rw (F .n-is) (found .before .before .before .before .before .before .pre .0)
-
-revealed-requires : tie.Need-revealed-requires
-revealed-requires c κs = search needs
-
-returns-2 : tie.Need-returns-2
-returns-2 c = search needs
+    let H = frame-read _ (found .before .before .read-header .ensures) (found .f .given .1) in
+    rw (H .n-is) (found .before .before .before .before .before .before .pre .0)
 
 pub run-lines-spec : {M : Type 1} → statement M
 run-lines-spec =
     tie.close
     (tie.spec
-    read-header-requires
-    enum-known-f
-    enum-told
-    returns
-    shared-slice-read-field-number
-    field-number-requires
-    field-line-requires
+    (λ c κs. search needs)
+    (λ c. search needs)
+    (λ c. search needs)
+    (λ c. search needs)
+    shared-slice-read-wide
+    (λ c κs. search needs)
+    (λ c κs. search needs)
     opened-requires
-    revealed-requires
-    returns-2)
+    (λ c κs. search needs)
+    (λ c. search needs))

@@ -9,11 +9,5 @@ use Rattle.table.proofs.run_read.Tie as tie
 slice-aggregate-run-sheet : tie.Need-slice-aggregate-run-sheet
 slice-aggregate-run-sheet c = sym (length-take-le _ _ (c .before .before .pre .1))
 
-run-sheet-requires : tie.Need-run-sheet-requires
-run-sheet-requires c κs = search needs
-
-returns : tie.Need-returns
-returns c = search needs
-
 pub run-read-spec : {M : Type 1} → statement M
-run-read-spec = tie.close (tie.spec slice-aggregate-run-sheet run-sheet-requires returns)
+run-read-spec = tie.close (tie.spec slice-aggregate-run-sheet (λ c κs. search needs) (λ c. search needs))

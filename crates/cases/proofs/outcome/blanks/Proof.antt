@@ -12,10 +12,10 @@ use Rattle.cases.proofs.outcome.blanks.Statement.{statement}
 use Rattle.cases.proofs.outcome.blanks.Tie as tie
 
 abbrev Inv-loop : tie.InvT-loop
-Inv-loop table found₀ i₀ found i = (found ≡ Blanks.blanks (table .marks) (table .cells) i) × (found ≤ i) × (i ≤ 448)
+Inv-loop cells marks found₀ i₀ found i = (found ≡ Blanks.blanks marks cells i) × (found ≤ i) × (i ≤ 448)
 
 abbrev μ-loop : tie.MeasureT-loop
-μ-loop table found₀ i₀ found i = 448 - i
+μ-loop cells marks found₀ i₀ found i = 448 - i
 
 none : (marks : List Bool) (cells : List ℕ) → 0 ≡ Blanks.blanks marks cells 0
 unfolding Blanks.blanks
@@ -32,30 +32,9 @@ at-end marks cells i found e h = rw (sym h) e
 loop-holds : tie.Need-loop-holds Inv-loop μ-loop
 loop-holds c = (none _ _, omega arith, omega arith)
 
-element-copy-out-blank : tie.Need-element-copy-out-blank Inv-loop μ-loop
-element-copy-out-blank c = search needs
-
-mul-blank : tie.Need-mul-blank Inv-loop μ-loop
-mul-blank c = search needs
-
-element-copy-out-blank-2 : tie.Need-element-copy-out-blank-2 Inv-loop μ-loop
-element-copy-out-blank-2 c = search needs
-
-blank-requires : tie.Need-blank-requires Inv-loop μ-loop
-blank-requires c κs = search needs
-
-add-found : tie.Need-add-found Inv-loop μ-loop
-add-found c = search needs
-
-add-i : tie.Need-add-i Inv-loop μ-loop
-add-i c = search needs
-
-loop-less : tie.Need-loop-less Inv-loop μ-loop
-loop-less c = search needs
-
 loop-again : tie.Need-loop-again Inv-loop μ-loop
 loop-again c =
-    let l = c .before .before .before .before .loop in
+    let l = c .before .before .before .loop in
     (one-more _ _ (l .i) _ _ _ (l .inv .0) (c .blank .ensures .0) (omega arith), omega arith, omega arith)
 
 returns : tie.Need-returns Inv-loop μ-loop
@@ -64,16 +43,5 @@ returns c = at-end _ _ _ _ (c .before .loop .inv .0) (omega arith)
 pub blanks-spec : {M : Type 1} → statement M
 blanks-spec =
     tie.close
-    (tie.spec
-    Inv-loop
-    μ-loop
-    loop-holds
-    element-copy-out-blank
-    mul-blank
-    element-copy-out-blank-2
-    blank-requires
-    add-found
-    add-i
-    loop-less
-    loop-again
-    returns)
+    (tie.spec Inv-loop μ-loop loop-holds (λ c. search needs) (λ c. search needs) (λ c. search needs) (λ c κs. search needs) (λ c. search needs)
+    (λ c. search needs) (λ c. search needs) loop-again returns)

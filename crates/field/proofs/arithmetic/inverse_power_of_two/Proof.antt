@@ -16,21 +16,9 @@ Inv-loop p m half r₀ i₀ r i = (i ≤ m) × ((r ≡ inversePowerOf2 p i) × (
 abbrev μ-loop : tie.MeasureT-loop
 μ-loop p m half r₀ i₀ r i = m - i
 
-add-half : tie.Need-add-half Inv-loop μ-loop
-add-half c = search needs
-
 loop-holds : tie.Need-loop-holds Inv-loop μ-loop
 unfolding inversePowerOf2
 loop-holds c = (omega arith, (refl, omega arith))
-
-mul-requires : tie.Need-mul-requires Inv-loop μ-loop
-mul-requires c κs = search needs
-
-add-i : tie.Need-add-i Inv-loop μ-loop
-add-i c = search needs
-
-loop-less : tie.Need-loop-less Inv-loop μ-loop
-loop-less c = search needs
 
 loop-again : tie.Need-loop-again Inv-loop μ-loop
 unfolding inversePowerOf2
@@ -42,4 +30,4 @@ returns c = (c .before .loop .inv .1 .0 ∙ ap (inversePowerOf2 _) (omega arith)
 pub inverse-power-of-two-spec : {M : Type 1} → statement M
 inverse-power-of-two-spec =
     tie.close
-    (tie.spec Inv-loop μ-loop add-half loop-holds mul-requires add-i loop-less loop-again returns)
+    (tie.spec Inv-loop μ-loop (λ c. search needs) loop-holds (λ c κs. search needs) (λ c. search needs) (λ c. search needs) loop-again returns)

@@ -12,9 +12,6 @@ use Rattle.field.proofs.arithmetic.mul.Tie as tie
 mul-result : tie.Need-mul-result
 mul-result c = record { fits = product-fits (search needs) (search needs) }
 
-rem-result : tie.Need-rem-result
-rem-result c = search needs
-
 cast-result : tie.Need-cast-result
 cast-result c = omega (arith, mod-lt (c .args .a * c .args .b) {m = c .args .p} (omega arith))
 
@@ -22,4 +19,4 @@ returns : tie.Need-returns
 returns c = (mul-out _ _ _, mod-lt _ (omega arith))
 
 pub mul-spec : {M : Type 1} → statement M
-mul-spec = tie.close (tie.spec mul-result rem-result cast-result returns)
+mul-spec = tie.close (tie.spec mul-result (λ c. search needs) cast-result returns)

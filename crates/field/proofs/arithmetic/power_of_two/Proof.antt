@@ -7,15 +7,9 @@ use Rattle.field.proofs.Residues.{shift-one}
 use Rattle.field.proofs.arithmetic.power_of_two.Statement.{statement}
 use Rattle.field.proofs.arithmetic.power_of_two.Tie as tie
 
-shl-reduce : tie.Need-shl-reduce
-shl-reduce c = search needs
-
-reduce-requires : tie.Need-reduce-requires
-reduce-requires c κs = search needs
-
 returns : tie.Need-returns
 unfolding powerOf2
 returns c = (rw (c .reduce .ensures .0, shift-one (c .before .args .m) 32 (omega arith)), c .reduce .ensures .1)
 
 pub power-of-two-spec : {M : Type 1} → statement M
-power-of-two-spec = tie.close (tie.spec shl-reduce reduce-requires returns)
+power-of-two-spec = tie.close (tie.spec (λ c. search needs) (λ c κs. search needs) returns)

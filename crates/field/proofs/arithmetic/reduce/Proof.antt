@@ -7,9 +7,6 @@ use borrow.Author.Needs.{needs}
 use Rattle.field.proofs.arithmetic.reduce.Statement.{statement}
 use Rattle.field.proofs.arithmetic.reduce.Tie as tie
 
-rem-result : tie.Need-rem-result
-rem-result c = search needs
-
 returns : tie.Need-returns
 returns c = (sym (mod-eq-of-lt (omega arith)), omega arith)
 
@@ -17,4 +14,4 @@ returns-2 : tie.Need-returns-2
 returns-2 c = (refl, mod-lt _ (omega arith))
 
 pub reduce-spec : {M : Type 1} → statement M
-reduce-spec = tie.close (tie.spec rem-result returns returns-2)
+reduce-spec = tie.close (tie.spec (λ c. search needs) returns returns-2)

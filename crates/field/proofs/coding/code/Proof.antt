@@ -22,17 +22,8 @@ module _ (p : ℕ) (a : ℤ) {m : ℕ} {s : Bool} (f : SFits w64 a) (h : mag a <
   code-down : s ≡ false → p - 1 - m ≡ code p a
   code-down t = rw (code-small p a h, ← held-is f, ← em, ← es, t)
 
-magnitude-requires : tie.Need-magnitude-requires
-magnitude-requires c κs = search needs
-
 cast-m : tie.Need-cast-m
 cast-m c = omega (arith, ap mag (held-is (c .before .fits .a)))
-
-non-negative-requires : tie.Need-non-negative-requires
-non-negative-requires c κs = search needs
-
-sub-result : tie.Need-sub-result
-sub-result c = search needs
 
 sub-result-2 : tie.Need-sub-result-2
 sub-result-2 c = omega (arith, ap mag (held-is (c .before .before .before .fits .a)))
@@ -44,13 +35,4 @@ returns-2 : tie.Need-returns-2
 returns-2 c = search code-down
 
 pub code-spec : {M : Type 1} → statement M
-code-spec =
-    tie.close
-    (tie.spec
-    magnitude-requires
-    cast-m
-    non-negative-requires
-    sub-result
-    sub-result-2
-    returns
-    returns-2)
+code-spec = tie.close (tie.spec (λ c κs. search needs) cast-m (λ c κs. search needs) (λ c. search needs) sub-result-2 returns returns-2)

@@ -9,20 +9,8 @@ use Rattle.field.proofs.Signs.{held-is}
 use Rattle.field.proofs.coding.in_range.Statement.{statement}
 use Rattle.field.proofs.coding.in_range.Tie as tie
 
-sub-half : tie.Need-sub-half
-sub-half c = search needs
-
-cast-half : tie.Need-cast-half
-cast-half c = search needs
-
-shl-half : tie.Need-shl-half
-shl-half c = search needs
-
-magnitude-requires : tie.Need-magnitude-requires
-magnitude-requires c κs = search needs
-
 returns : tie.Need-returns
 returns c = rw (c .magnitude .ensures .0, held-is (c .before .fits .a), shift-one (c .before .args .k - 1) 64 (omega arith), in-range)
 
 pub in-range-spec : {M : Type 1} → statement M
-in-range-spec = tie.close (tie.spec sub-half cast-half shl-half magnitude-requires returns)
+in-range-spec = tie.close (tie.spec (λ c. search needs) (λ c. search needs) (λ c. search needs) (λ c κs. search needs) returns)

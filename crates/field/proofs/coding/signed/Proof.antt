@@ -5,9 +5,6 @@ use Rattle.field.proofs.Signs.{held-is, pos-fits, minus-fits, minus-is}
 use Rattle.field.proofs.coding.signed.Statement.{statement}
 use Rattle.field.proofs.coding.signed.Tie as tie
 
-cast-a : tie.Need-cast-a
-cast-a c = search needs
-
 sub-result : tie.Need-sub-result
 sub-result c = minus-fits (pos-fits (c .before .pre))
 
@@ -18,4 +15,4 @@ returns-2 : tie.Need-returns-2
 returns-2 c = rw (c .if1 .left) (minus-is (pos-fits (c .before .pre)))
 
 pub signed-spec : {M : Type 1} → statement M
-signed-spec = tie.close (tie.spec cast-a sub-result returns returns-2)
+signed-spec = tie.close (tie.spec (λ c. search needs) sub-result returns returns-2)

@@ -7,21 +7,9 @@ use Rattle.field.proofs.Entries.{entryTest, entry-at}
 use Rattle.field.proofs.table.bits.Statement.{statement}
 use Rattle.field.proofs.table.bits.Tie as tie
 
-mul-result : tie.Need-mul-result
-mul-result c = search needs
-
-add-result : tie.Need-add-result
-add-result c = search needs
-
-mul-result-2 : tie.Need-mul-result-2
-mul-result-2 c = search needs
-
-array-read-result : tie.Need-array-read-result
-array-read-result c = search needs
-
 returns : tie.Need-returns
 unfolding entryTest bits
 returns c = search (needs, entry-at (λ (f : ℕ). 3 * f + 1) bits)
 
 pub bits-spec : {M : Type 1} → statement M
-bits-spec = tie.close (tie.spec mul-result add-result mul-result-2 array-read-result returns)
+bits-spec = tie.close (tie.spec (λ c. search needs) (λ c. search needs) (λ c. search needs) (λ c. search needs) returns)

@@ -23,21 +23,9 @@ inverse-at l f d t h k =
     let r : (8 * f + d) % 8 ≡ d = omega arith in
     eqb→eq _ _ (rw (q, r) at (every-at 32 (inverse-test l) t (8 * f + d) (omega arith)))
 
-mul-result : tie.Need-mul-result
-mul-result c = search needs
-
-add-result : tie.Need-add-result
-add-result c = search needs
-
-mul-result-2 : tie.Need-mul-result-2
-mul-result-2 c = search needs
-
-array-read-result : tie.Need-array-read-result
-array-read-result c = search needs
-
 returns : tie.Need-returns
 unfolding inverse-test inverse modulus
 returns c = search (needs, inverse-at)
 
 pub inverse-spec : {M : Type 1} → statement M
-inverse-spec = tie.close (tie.spec mul-result add-result mul-result-2 array-read-result returns)
+inverse-spec = tie.close (tie.spec (λ c. search needs) (λ c. search needs) (λ c. search needs) (λ c. search needs) returns)

@@ -9,37 +9,19 @@ use Rattle.jundrethol.proofs.lent.put_cells.Statement.{statement}
 use Rattle.jundrethol.proofs.lent.put_cells.Tie as tie
 
 abbrev Inv-loop : tie.InvT-loop
-Inv-loop part₀ table count j₀ part j = Lending (table .cells) part₀ count j part
+Inv-loop part₀ cells count j₀ part j = Lending cells part₀ count j part
 
 abbrev μ-loop : tie.MeasureT-loop
-μ-loop part₀ table count j₀ part j = count - j
-
-least-requires : tie.Need-least-requires Inv-loop μ-loop
-least-requires c κs = search needs
+μ-loop part₀ cells count j₀ part j = count - j
 
 loop-holds : tie.Need-loop-holds Inv-loop μ-loop
 loop-holds c = lending-start _ _ _ 448 (search needs) (c .least .ensures)
 
-mul-part : tie.Need-mul-part Inv-loop μ-loop
-mul-part c = search needs
-
-element-copy-out-part : tie.Need-element-copy-out-part Inv-loop μ-loop
-element-copy-out-part c = search needs
-
-mul-part-2 : tie.Need-mul-part-2 Inv-loop μ-loop
-mul-part-2 c = search needs
-
 slice-write-part : tie.Need-slice-write-part Inv-loop μ-loop
-slice-write-part c = let L = c .before .before .loop .inv in omega (arith, lending-length L, L .places)
-
-add-j : tie.Need-add-j Inv-loop μ-loop
-add-j c = search needs
-
-loop-less : tie.Need-loop-less Inv-loop μ-loop
-loop-less c = search needs
+slice-write-part c = let L = c .before .loop .inv in omega (arith, lending-length L, L .places)
 
 loop-again : tie.Need-loop-again Inv-loop μ-loop
-loop-again c = lending-more (c .before .before .loop .inv) (omega arith) refl
+loop-again c = lending-more (c .before .loop .inv) (omega arith) refl
 
 same-length : tie.Need-same-length Inv-loop μ-loop
 same-length c = lending-length (c .before .loop .inv)
@@ -50,17 +32,5 @@ returns c = lending-end (c .before .loop .inv) (omega arith)
 pub put-cells-spec : {M : Type 1} → statement M
 put-cells-spec =
     tie.close
-    (tie.spec
-    Inv-loop
-    μ-loop
-    least-requires
-    loop-holds
-    mul-part
-    element-copy-out-part
-    mul-part-2
-    slice-write-part
-    add-j
-    loop-less
-    loop-again
-    same-length
-    returns)
+    (tie.spec Inv-loop μ-loop (λ c κs. search needs) loop-holds (λ c. search needs) (λ c. search needs) (λ c. search needs) slice-write-part
+    (λ c. search needs) (λ c. search needs) loop-again same-length returns)

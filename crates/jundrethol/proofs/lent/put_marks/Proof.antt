@@ -10,37 +10,22 @@ use Rattle.jundrethol.proofs.lent.put_marks.Statement.{statement}
 use Rattle.jundrethol.proofs.lent.put_marks.Tie as tie
 
 abbrev Inv-loop : tie.InvT-loop
-Inv-loop part₀ table count j₀ part j = Lending (flags (table .marks)) part₀ count j part
+Inv-loop part₀ marks count j₀ part j = Lending (flags marks) part₀ count j part
 
 abbrev μ-loop : tie.MeasureT-loop
-μ-loop part₀ table count j₀ part j = count - j
-
-least-requires : tie.Need-least-requires Inv-loop μ-loop
-least-requires c κs = search needs
+μ-loop part₀ marks count j₀ part j = count - j
 
 loop-holds : tie.Need-loop-holds Inv-loop μ-loop
 loop-holds c = lending-start _ _ _ 64 (length-flags _ ∙ search needs) (c .least .ensures)
 
-element-copy-out-flag : tie.Need-element-copy-out-flag Inv-loop μ-loop
-element-copy-out-flag c = search needs
-
-flag-requires : tie.Need-flag-requires Inv-loop μ-loop
-flag-requires c κs = search needs
-
 slice-write-part : tie.Need-slice-write-part Inv-loop μ-loop
-slice-write-part c = let L = c .before .before .before .loop .inv in omega (arith, lending-length L, L .places)
-
-add-j : tie.Need-add-j Inv-loop μ-loop
-add-j c = search needs
-
-loop-less : tie.Need-loop-less Inv-loop μ-loop
-loop-less c = search needs
+slice-write-part c = let L = c .before .before .loop .inv in omega (arith, lending-length L, L .places)
 
 loop-again : tie.Need-loop-again Inv-loop μ-loop
 loop-again c =
-    let l = c .before .before .before .loop in
+    let l = c .before .before .loop in
     let L = l .inv in
-    lending-more L (omega arith) (c .flag .ensures ∙ flag-at _ (l .j) (omega (arith, L .source, length-flags (c .before .before .before .before .before .before .args .t2 .marks))))
+    lending-more L (omega arith) (c .flag .ensures ∙ flag-at _ (l .j) (omega (arith, L .source, length-flags (c .before .before .before .before .before .args .t2))))
 
 same-length : tie.Need-same-length Inv-loop μ-loop
 same-length c = lending-length (c .before .loop .inv)
@@ -51,16 +36,5 @@ returns c = lending-end (c .before .loop .inv) (omega arith)
 pub put-marks-spec : {M : Type 1} → statement M
 put-marks-spec =
     tie.close
-    (tie.spec
-    Inv-loop
-    μ-loop
-    least-requires
-    loop-holds
-    element-copy-out-flag
-    flag-requires
-    slice-write-part
-    add-j
-    loop-less
-    loop-again
-    same-length
-    returns)
+    (tie.spec Inv-loop μ-loop (λ c κs. search needs) loop-holds (λ c. search needs) (λ c κs. search needs) slice-write-part (λ c. search needs)
+    (λ c. search needs) loop-again same-length returns)

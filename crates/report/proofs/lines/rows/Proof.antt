@@ -24,57 +24,20 @@ row-in : (c : tie.In-loop Inv-loop μ-loop)
     → let a = c .before .before .before .before .args in c .before .loop .at + a .n ≤ length (now (a .xs))
 row-in c = in-list _ _ _ _ _ (c .before .loop .inv .0) (omega arith) (c .before .before .before .before .pre)
 
-loop-holds : tie.Need-loop-holds Inv-loop μ-loop
-loop-holds c = search needs
-
 add-list-line : tie.Need-add-list-line Inv-loop μ-loop
 add-list-line c = omega (arith, row-in c)
-
-mul-list-line : tie.Need-mul-list-line Inv-loop μ-loop
-mul-list-line c = search needs
-
-sub-list-line : tie.Need-sub-list-line Inv-loop μ-loop
-sub-list-line c = search needs
-
-part-list-line-start : tie.Need-part-list-line-start Inv-loop μ-loop
-part-list-line-start c = search needs
 
 part-list-line-end : tie.Need-part-list-line-end Inv-loop μ-loop
 part-list-line-end c = omega (arith, row-in c)
 
-list-line-requires : tie.Need-list-line-requires Inv-loop μ-loop
-list-line-requires c κs = search needs
-
 add-at : tie.Need-add-at Inv-loop μ-loop
 add-at c = omega (arith, row-in (c .before .before))
-
-add-i : tie.Need-add-i Inv-loop μ-loop
-add-i c = search needs
-
-loop-less : tie.Need-loop-less Inv-loop μ-loop
-loop-less c = search needs
 
 loop-again : tie.Need-loop-again Inv-loop μ-loop
 loop-again c = omega (arith, row-in (c .before .before))
 
-returns : tie.Need-returns Inv-loop μ-loop
-returns c = search needs
-
 pub rows-spec : {M : Type 1} → statement M
 rows-spec =
     tie.close
-    (tie.spec
-    Inv-loop
-    μ-loop
-    loop-holds
-    add-list-line
-    mul-list-line
-    sub-list-line
-    part-list-line-start
-    part-list-line-end
-    list-line-requires
-    add-at
-    add-i
-    loop-less
-    loop-again
-    returns)
+    (tie.spec Inv-loop μ-loop (λ c. search needs) add-list-line (λ c. search needs) (λ c. search needs) (λ c. search needs) part-list-line-end
+    (λ c κs. search needs) add-at (λ c. search needs) (λ c. search needs) loop-again (λ c. search needs))

@@ -1,62 +1,26 @@
 -- `decode` meets its contract: each return is a law of its own.
 -- Assumes nothing.
+use native.Mathlib.Omega.{arith}
 use borrow.Author.Needs.{needs}
-use Rattle.script.proofs.Decoding.{reads-missing, reads-unknown, reads-cut, reads-out, reads-in}
+use Rattle.script.proofs.Decoding.{reads-missing, reads-unknown, reads-cut, reads-end, reads-out, reads-in}
 use Rattle.script.proofs.Sizes.{fits}
 use Rattle.script.proofs.decode.decode.Statement.{statement}
 use Rattle.script.proofs.decode.decode.Tie as tie
 
-returns : tie.Need-returns
-returns c = search reads-missing
-
-shared-slice-read-index : tie.Need-shared-slice-read-index
-shared-slice-read-index c = search needs
-
-index-requires : tie.Need-index-requires
-index-requires c κs = search needs
-
-returns-2 : tie.Need-returns-2
-returns-2 c = search reads-unknown
-
-size-of-requires : tie.Need-size-of-requires
-size-of-requires c κs = search needs
-
-sub-if3 : tie.Need-sub-if3
-sub-if3 c = search needs
-
-returns-3 : tie.Need-returns-3
-returns-3 c = search reads-cut
-
-command-at-requires : tie.Need-command-at-requires
-command-at-requires c κs =
-    let i = c .before .before .before in
-    (search needs, search needs, fits _ _ (i .index .ensures) (c .before .size-of .ensures) (i .before .before .if1 .left) (c .if3 .left))
-
-in-range-requires : tie.Need-in-range-requires
-in-range-requires c κs = search needs
-
-add-t15 : tie.Need-add-t15
-add-t15 c = search needs
-
 returns-4 : tie.Need-returns-4
-returns-4 c = search reads-in
+returns-4 c =
+    reads-end _ _ _ _ (search needs) (search needs) (search needs) (c .before .before .before .size-of .ensures) (omega arith) (c .before .if4 .taken)
+    (c .after-end .ensures)
 
-returns-5 : tie.Need-returns-5
-returns-5 c = search reads-out
+returns-6 : tie.Need-returns-6
+returns-6 c =
+    reads-out _ _ _ _ (search needs) (search needs) (search needs) (c .before .before .before .before .before .size-of .ensures) (omega arith) (c .before .before .command-at .ensures)
+    (c .before .in-range .ensures) (c .if5 .left)
 
 pub decode-spec : {M : Type 1} → statement M
 decode-spec =
     tie.close
-    (tie.spec
-    returns
-    shared-slice-read-index
-    index-requires
-    returns-2
-    size-of-requires
-    sub-if3
-    returns-3
-    command-at-requires
-    in-range-requires
-    add-t15
-    returns-4
-    returns-5)
+    (tie.spec (λ c. search reads-missing) (λ c. search needs) (λ c κs. search needs) (λ c. search reads-unknown) (λ c κs. search needs) (λ c. search needs)
+    (λ c. search reads-cut) (λ c. search needs) (λ c κs. search needs) returns-4
+    (λ c κs. (search needs, search needs, fits _ _ _ (c .before .before .size-of .ensures) (omega arith) (omega arith))) (λ c κs. search needs) (λ c. search needs)
+    (λ c. search reads-in) returns-6)

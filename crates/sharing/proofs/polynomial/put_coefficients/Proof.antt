@@ -21,29 +21,8 @@ M c = fields (c .args .field) (c .pre .0) .modulus-is
 loop-holds : tie.Need-loop-holds Inv-loop μ-loop
 loop-holds c = let s = c .before in recovering-start (M s) _ (omega arith) _ _ (s .pre .3) (s .pre .2)
 
-sub-e : tie.Need-sub-e Inv-loop μ-loop
-sub-e c = search needs
-
-take-off-requires : tie.Need-take-off-requires Inv-loop μ-loop
-take-off-requires c κs = search needs
-
-modulus-requires : tie.Need-modulus-requires Inv-loop μ-loop
-modulus-requires c κs = search needs
-
-value-before-requires : tie.Need-value-before-requires Inv-loop μ-loop
-value-before-requires c κs = search needs
-
-mul-out : tie.Need-mul-out Inv-loop μ-loop
-mul-out c = search needs
-
 slice-write-out : tie.Need-slice-write-out Inv-loop μ-loop
 slice-write-out c = let s = c .before .before .before .before .before .before in omega (arith, recovering-length (M s) _ (omega arith) _ _ (s .pre .3) (c .before .before .before .before .loop .inv))
-
-add-k : tie.Need-add-k Inv-loop μ-loop
-add-k c = search needs
-
-loop-less : tie.Need-loop-less Inv-loop μ-loop
-loop-less c = search needs
 
 loop-again : tie.Need-loop-again Inv-loop μ-loop
 loop-again c = let s = c .before .before .before .before .before .before in recovering-more (M s) _ (omega arith) _ _ (s .pre .3) (c .before .before .before .before .loop .inv) (omega arith) (c .before .before .take-off .ensures) (rw (c .before .modulus .ensures .0) at (c .value-before .ensures .0))
@@ -57,18 +36,5 @@ returns c = let s = c .before .before .before in recovering-end (M s) _ (omega a
 pub put-coefficients-spec : {M : Type 1} → statement M
 put-coefficients-spec =
     tie.close
-    (tie.spec
-    Inv-loop
-    μ-loop
-    loop-holds
-    sub-e
-    take-off-requires
-    modulus-requires
-    value-before-requires
-    mul-out
-    slice-write-out
-    add-k
-    loop-less
-    loop-again
-    same-length
-    returns)
+    (tie.spec Inv-loop μ-loop loop-holds (λ c. search needs) (λ c κs. search needs) (λ c κs. search needs) (λ c κs. search needs) (λ c. search needs)
+    slice-write-out (λ c. search needs) (λ c. search needs) loop-again same-length returns)

@@ -20,27 +20,6 @@ abbrev μ-loop : tie.MeasureT-loop
 loop-holds : tie.Need-loop-holds Inv-loop μ-loop
 loop-holds c = filling-start _ _
 
-add-value-at : tie.Need-add-value-at Inv-loop μ-loop
-add-value-at c = search needs
-
-cast-value-at : tie.Need-cast-value-at Inv-loop μ-loop
-cast-value-at c = search needs
-
-value-at-requires : tie.Need-value-at-requires Inv-loop μ-loop
-value-at-requires c κs = search needs
-
-mul-shares : tie.Need-mul-shares Inv-loop μ-loop
-mul-shares c = search needs
-
-array-write-shares : tie.Need-array-write-shares Inv-loop μ-loop
-array-write-shares c = search needs
-
-add-j : tie.Need-add-j Inv-loop μ-loop
-add-j c = search needs
-
-loop-less : tie.Need-loop-less Inv-loop μ-loop
-loop-less c = search needs
-
 loop-again : tie.Need-loop-again Inv-loop μ-loop
 loop-again c = filling-more (c .before .before .loop .inv) (omega arith) (omega arith) (c .value-at .ensures .0 ∙ ap (eval _ _) (add-one (c .before .before .loop .j)))
 
@@ -51,16 +30,5 @@ returns c = filling-end (c .before .loop .inv) (omega arith)
 pub share-row-spec : {M : Type 1} → statement M
 share-row-spec =
     tie.close
-    (tie.spec
-    Inv-loop
-    μ-loop
-    loop-holds
-    add-value-at
-    cast-value-at
-    value-at-requires
-    mul-shares
-    array-write-shares
-    add-j
-    loop-less
-    loop-again
-    returns)
+    (tie.spec Inv-loop μ-loop loop-holds (λ c. search needs) (λ c. search needs) (λ c κs. search needs) (λ c. search needs) (λ c. search needs)
+    (λ c. search needs) (λ c. search needs) loop-again returns)

@@ -3,6 +3,7 @@
 use Prim.Native.Nat.{suc, _-_}
 use Rattle.algebra.proofs.Rows.{Filling, filling-start, filling-more, filling-end}
 use Rattle.algebra.specs.Ring.{sub, mul}
+use Rattle.model.proofs.Fields.{listed}
 use Rattle.model.specs.Fields.{modulus, inverse}
 use borrow.Author.Needs.{needs}
 use lib.ListN.{getD}
@@ -18,41 +19,11 @@ Inv-loop field e c row p shares₀ j₀ shares j = Filling e (λ k. mul (modulus
 abbrev μ-loop : tie.MeasureT-loop
 μ-loop field e c row p shares₀ j₀ shares j = e - j
 
-modulus-requires : tie.Need-modulus-requires Inv-loop μ-loop
-modulus-requires c κs = search needs
-
 loop-holds : tie.Need-loop-holds Inv-loop μ-loop
 loop-holds c = filling-start _ _
 
-mul-sub : tie.Need-mul-sub Inv-loop μ-loop
-mul-sub c = search needs
-
-element-copy-out-sub : tie.Need-element-copy-out-sub Inv-loop μ-loop
-element-copy-out-sub c = search needs
-
-sub-requires : tie.Need-sub-requires Inv-loop μ-loop
-sub-requires c κs = search needs
-
-add-inverse : tie.Need-add-inverse Inv-loop μ-loop
-add-inverse c = search needs
-
 inverse-requires : tie.Need-inverse-requires Inv-loop μ-loop
-inverse-requires c κs = search needs
-
-mul-requires : tie.Need-mul-requires Inv-loop μ-loop
-mul-requires c κs = search needs
-
-mul-shares : tie.Need-mul-shares Inv-loop μ-loop
-mul-shares c = search needs
-
-array-write-shares : tie.Need-array-write-shares Inv-loop μ-loop
-array-write-shares c = search needs
-
-add-j : tie.Need-add-j Inv-loop μ-loop
-add-j c = search needs
-
-loop-less : tie.Need-loop-less Inv-loop μ-loop
-loop-less c = search needs
+inverse-requires c κs = search (needs, listed)
 
 off : (c : tie.After-mul Inv-loop μ-loop) → let a = c .before .before .before .before .before .before .before .args in let l = c .before .before .before .before .before .loop in c .mul .result ≡ mul (modulus (a .field)) (sub (modulus (a .field)) (getD (a .t3 .shares) (l .j) 0) (a .c)) (inverse (modulus (a .field)) (suc (l .j)))
 off c = cc (add-one (c .before .before .before .before .before .loop .j))
@@ -66,20 +37,5 @@ returns c = filling-end (c .before .loop .inv) (omega arith)
 pub take-off-spec : {M : Type 1} → statement M
 take-off-spec =
     tie.close
-    (tie.spec
-    Inv-loop
-    μ-loop
-    modulus-requires
-    loop-holds
-    mul-sub
-    element-copy-out-sub
-    sub-requires
-    add-inverse
-    inverse-requires
-    mul-requires
-    mul-shares
-    array-write-shares
-    add-j
-    loop-less
-    loop-again
-    returns)
+    (tie.spec Inv-loop μ-loop (λ c κs. search needs) loop-holds (λ c. search needs) (λ c. search needs) (λ c κs. search needs) (λ c. search needs)
+    inverse-requires (λ c κs. search needs) (λ c. search needs) (λ c. search needs) (λ c. search needs) (λ c. search needs) loop-again returns)

@@ -17,29 +17,8 @@ abbrev μ-loop : tie.MeasureT-loop
 loop-holds : tie.Need-loop-holds Inv-loop μ-loop
 loop-holds c = filling-start _ _
 
-mul-read-word : tie.Need-mul-read-word Inv-loop μ-loop
-mul-read-word c = search needs
-
-add-read-word : tie.Need-add-read-word Inv-loop μ-loop
-add-read-word c = search needs
-
-read-word-requires : tie.Need-read-word-requires Inv-loop μ-loop
-read-word-requires c κs = search needs
-
-mul-shares : tie.Need-mul-shares Inv-loop μ-loop
-mul-shares c = search needs
-
-array-write-shares : tie.Need-array-write-shares Inv-loop μ-loop
-array-write-shares c = search needs
-
-add-j : tie.Need-add-j Inv-loop μ-loop
-add-j c = search needs
-
-loop-less : tie.Need-loop-less Inv-loop μ-loop
-loop-less c = search needs
-
 loop-again : tie.Need-loop-again Inv-loop μ-loop
-loop-again c = filling-more (c .before .before .loop .inv) (omega arith) (omega arith) (c .read-word .ensures)
+loop-again c = filling-more (c .before .before .loop .inv) (omega arith) (omega arith) (c .word .ensures)
 
 returns : tie.Need-returns Inv-loop μ-loop
 unfolding rowAt
@@ -48,16 +27,5 @@ returns c = filling-end (c .before .loop .inv) (omega arith)
 pub read-row-spec : {M : Type 1} → statement M
 read-row-spec =
     tie.close
-    (tie.spec
-    Inv-loop
-    μ-loop
-    loop-holds
-    mul-read-word
-    add-read-word
-    read-word-requires
-    mul-shares
-    array-write-shares
-    add-j
-    loop-less
-    loop-again
-    returns)
+    (tie.spec Inv-loop μ-loop loop-holds (λ c. search needs) (λ c. search needs) (λ c κs. search needs) (λ c. search needs) (λ c. search needs)
+    (λ c. search needs) (λ c. search needs) loop-again returns)

@@ -16,38 +16,11 @@ Inv-loop p n t row e i₀ i = (1 ≤ i) × (i ≤ n) × ((z : ℕ) → 1 ≤ z �
 abbrev μ-loop : tie.MeasureT-loop
 μ-loop p n t row e i₀ i = n - i
 
-shares-below-requires : tie.Need-shares-below-requires Inv-loop μ-loop
-shares-below-requires c κs = search needs
-
-add-e : tie.Need-add-e Inv-loop μ-loop
-add-e c = search needs
-
 loop-holds : tie.Need-loop-holds Inv-loop μ-loop
 loop-holds c = (omega arith, omega arith, λ z a b. absurd (omega arith))
 
-add-loop : tie.Need-add-loop Inv-loop μ-loop
-add-loop c = search needs
-
-value-before-requires : tie.Need-value-before-requires Inv-loop μ-loop
-value-before-requires c κs = search needs
-
-sub-if2 : tie.Need-sub-if2 Inv-loop μ-loop
-sub-if2 c = search needs
-
-mul-if2 : tie.Need-mul-if2 Inv-loop μ-loop
-mul-if2 c = search needs
-
-element-copy-out-if2 : tie.Need-element-copy-out-if2 Inv-loop μ-loop
-element-copy-out-if2 c = search needs
-
 returns : tie.Need-returns Inv-loop μ-loop
 returns c = let s = c .before .before .before .before .before .before .before in let l = c .before .before .before .before .loop in sym (fails-at (s .pre .0) (s .pre .1) (s .args .t4 .shares) (l .i) (omega arith) (omega arith) (λ q. c .if2 .taken (c .before .before .value-before .ensures .0 ∙ q ∙ at-place _ (l .i) (omega arith))))
-
-add-i : tie.Need-add-i Inv-loop μ-loop
-add-i c = search needs
-
-loop-less : tie.Need-loop-less Inv-loop μ-loop
-loop-less c = search needs
 
 loop-again : tie.Need-loop-again Inv-loop μ-loop
 loop-again c = let l = c .before .before .before .before .loop in (omega arith, omega arith, steps-more _ _ _ (l .i) (omega arith) (l .inv .2) (c .before .before .value-before .ensures .0) refl (c .if2 .left))
@@ -61,20 +34,5 @@ returns-3 c = let s = c .before .before in sym (fails-below (s .pre .0) (s .pre 
 pub is-sharing-spec : {M : Type 1} → statement M
 is-sharing-spec =
     tie.close
-    (tie.spec
-    Inv-loop
-    μ-loop
-    shares-below-requires
-    add-e
-    loop-holds
-    add-loop
-    value-before-requires
-    sub-if2
-    mul-if2
-    element-copy-out-if2
-    returns
-    add-i
-    loop-less
-    loop-again
-    returns-2
-    returns-3)
+    (tie.spec Inv-loop μ-loop (λ c κs. search needs) (λ c. search needs) loop-holds (λ c. search needs) (λ c κs. search needs) (λ c. search needs)
+    (λ c. search needs) (λ c. search needs) returns (λ c. search needs) (λ c. search needs) loop-again returns-2 returns-3)

@@ -7,14 +7,8 @@ use native.Mathlib.Omega.{arith}
 use Rattle.sharing.proofs.secret.secret_of.Statement.{statement}
 use Rattle.sharing.proofs.secret.secret_of.Tie as tie
 
-add-value-before : tie.Need-add-value-before
-add-value-before c = search needs
-
-value-before-requires : tie.Need-value-before-requires
-value-before-requires c κs = search needs
-
 returns : tie.Need-returns
 returns c = (c .value-before .ensures .0 ∙ secret-before (c .before .pre .0) _ (omega arith) _, c .value-before .ensures .1)
 
 pub secret-of-spec : {M : Type 1} → statement M
-secret-of-spec = tie.close (tie.spec add-value-before value-before-requires returns)
+secret-of-spec = tie.close (tie.spec (λ c. search needs) (λ c κs. search needs) returns)

@@ -18,30 +18,6 @@ abbrev μ-loop : tie.MeasureT-loop
 loop-holds : tie.Need-loop-holds Inv-loop μ-loop
 loop-holds c = (omega arith, terms-none _ _ _ _)
 
-add-reduce : tie.Need-add-reduce Inv-loop μ-loop
-add-reduce c = search needs
-
-mul-reduce : tie.Need-mul-reduce Inv-loop μ-loop
-mul-reduce c = search needs
-
-element-copy-out-reduce : tie.Need-element-copy-out-reduce Inv-loop μ-loop
-element-copy-out-reduce c = search needs
-
-reduce-requires : tie.Need-reduce-requires Inv-loop μ-loop
-reduce-requires c κs = search needs
-
-add-weight : tie.Need-add-weight Inv-loop μ-loop
-add-weight c = search needs
-
-weight-requires : tie.Need-weight-requires Inv-loop μ-loop
-weight-requires c κs = search needs
-
-wide-requires : tie.Need-wide-requires Inv-loop μ-loop
-wide-requires c κs = search needs
-
-wide-requires-2 : tie.Need-wide-requires-2 Inv-loop μ-loop
-wide-requires-2 c κs = search needs
-
 -- the sum with the term of this turn, and that it fits
 next : (c : tie.After-wide2 Inv-loop μ-loop) → let a = c .before .before .before .before .before .before .before .args in let l = c .before .before .before .before .before .before .loop in l .sum + c .before .wide .result * c .wide2 .result ≡ terms (a .p) (a .e) (a .t3 .shares) (a .i) (l .x + 1)
 next c =
@@ -57,20 +33,8 @@ mul-sum c = omega (arith, next c, fits c)
 add-sum : tie.Need-add-sum Inv-loop μ-loop
 add-sum c = omega (arith, next c, fits c)
 
-add-x : tie.Need-add-x Inv-loop μ-loop
-add-x c = search needs
-
-loop-less : tie.Need-loop-less Inv-loop μ-loop
-loop-less c = search needs
-
 loop-again : tie.Need-loop-again Inv-loop μ-loop
 loop-again c = (omega arith, next c)
-
-wide-requires-3 : tie.Need-wide-requires-3 Inv-loop μ-loop
-wide-requires-3 c κs = search needs
-
-rem-result : tie.Need-rem-result Inv-loop μ-loop
-rem-result c = search needs
 
 low : (c : tie.After-wide3 Inv-loop μ-loop) → c .before .before .loop .sum % c .wide3 .result < c .before .before .before .args .p
 low c = rw (c .wide3 .ensures .0) (mod-lt _ (omega arith))
@@ -87,24 +51,6 @@ returns c =
 pub value-before-spec : {M : Type 1} → statement M
 value-before-spec =
     tie.close
-    (tie.spec
-    Inv-loop
-    μ-loop
-    loop-holds
-    add-reduce
-    mul-reduce
-    element-copy-out-reduce
-    reduce-requires
-    add-weight
-    weight-requires
-    wide-requires
-    wide-requires-2
-    mul-sum
-    add-sum
-    add-x
-    loop-less
-    loop-again
-    wide-requires-3
-    rem-result
-    cast-result
-    returns)
+    (tie.spec Inv-loop μ-loop loop-holds (λ c. search needs) (λ c. search needs) (λ c. search needs) (λ c κs. search needs) (λ c. search needs)
+    (λ c κs. search needs) (λ c κs. search needs) (λ c κs. search needs) mul-sum add-sum (λ c. search needs) (λ c. search needs) loop-again
+    (λ c κs. search needs) (λ c. search needs) cast-result returns)

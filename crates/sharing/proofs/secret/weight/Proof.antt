@@ -4,6 +4,7 @@ use Prim.Native.Nat.{ℕ, suc, _+_, _-_, _*_, _/_, _%_, _≤_, _<_}
 use Rattle.algebra.proofs.Tests.{and-left, and-right, every, every-at}
 use Rattle.algebra.specs.Lists.{from}
 use Rattle.algebra.specs.Ring.{sub, mul}
+use Rattle.model.proofs.Fields.{listed}
 use Rattle.model.proofs.Weights.{weight-lt}
 use Rattle.model.specs.Fields.{Modulus, modulus, inverse}
 use Rattle.model.specs.Sharing.{weight, ratio, reciprocal}
@@ -48,7 +49,7 @@ module _ (l : List ℕ) {p : ℕ} (e x : ℕ) (t : T (every 64 (weight-test l)))
   here =
       let q : suc (e - 1) ≡ e = omega arith in
       let r : suc (x - 1) ≡ x = omega arith in
-      rw (← (M .is), q, r) at (weight-entry l t (M .number) (e - 1) (x - 1) (M .listed) (omega arith) (omega arith))
+      rw (← (M .is), q, r) at (weight-entry l t (M .number) (e - 1) (x - 1) (listed (M .number) (M .in-use)) (omega arith) (omega arith))
 
   binomial-fits : getD l place 0 ≤ p
   binomial-fits = omega (arith, ltb→lt (getD l place 0) 8 (and-left (ltb (getD l place 0) 8) _ here))
@@ -68,24 +69,6 @@ module _ (l : List ℕ) {p : ℕ} (e x : ℕ) (t : T (every 64 (weight-test l)))
 with-bound : {p r : ℕ} (e x : ℕ) → 1 < p → r ≡ weight p (from 1 e) x → (r ≡ weight p (from 1 e) x) × (r < p)
 with-bound e x h q = (q, rw q (weight-lt h _ _))
 
-sub-binomial : tie.Need-sub-binomial
-sub-binomial c = search needs
-
-mul-binomial : tie.Need-mul-binomial
-mul-binomial c = search needs
-
-sub-binomial-2 : tie.Need-sub-binomial-2
-sub-binomial-2 c = search needs
-
-add-binomial : tie.Need-add-binomial
-add-binomial c = search needs
-
-mul-binomial-2 : tie.Need-mul-binomial-2
-mul-binomial-2 c = search needs
-
-array-read-binomial : tie.Need-array-read-binomial
-array-read-binomial c = search needs
-
 sub-result : tie.Need-sub-result
 unfolding place weight-test entry signed weight ratio reciprocal inverse modulus from mul sub
 sub-result c = search (needs, binomial-fits)
@@ -101,13 +84,5 @@ returns-2 c = with-bound (c .before .args .e) (c .before .args .x) (omega arith)
 pub weight-spec : {M : Type 1} → statement M
 weight-spec =
     tie.close
-    (tie.spec
-    sub-binomial
-    mul-binomial
-    sub-binomial-2
-    add-binomial
-    mul-binomial-2
-    array-read-binomial
-    sub-result
-    returns
+    (tie.spec (λ c. search needs) (λ c. search needs) (λ c. search needs) (λ c. search needs) (λ c. search needs) (λ c. search needs) sub-result returns
     returns-2)

@@ -8,19 +8,13 @@ use Rattle.sheet.proofs.deal.good_mask.Statement.{statement}
 use Rattle.sheet.proofs.deal.good_mask.Tie as tie
 
 abbrev Inv-loop : tie.InvT-loop
-Inv-loop p l n t s i v₀ power₀ from₀ k₀ v power from k = Spelling (record { p = p; l = l; n = n; t = t }) s i l k from v power
+Inv-loop s i p l n t v₀ power₀ from₀ k₀ v power from k = Spelling (record { p = p; l = l; n = n; t = t }) s i l k from v power
 
 abbrev μ-loop : tie.MeasureT-loop
-μ-loop p l n t s i v₀ power₀ from₀ k₀ v power from k = l - k
-
-loop-holds : tie.Need-loop-holds Inv-loop μ-loop
-loop-holds c = spelling-start
+μ-loop s i p l n t v₀ power₀ from₀ k₀ v power from k = l - k
 
 read-row-requires : tie.Need-read-row-requires Inv-loop μ-loop
-read-row-requires c κs = (omega arith, omega (arith, spelling-fits (c .before .loop .inv) (omega arith)))
-
-secret-of-requires : tie.Need-secret-of-requires Inv-loop μ-loop
-secret-of-requires c κs = search needs
+read-row-requires c κs = let l = spelling-fits (c .before .loop .inv) (omega arith) in search needs
 
 returns : tie.Need-returns Inv-loop μ-loop
 returns c = let l = c .before .before .before .before .loop in spelling-fails (l .inv) (omega arith) (rw (c .before .before .read-row .ensures) at (c .before .secret-of .ensures .0)) (c .if1 .taken)
@@ -34,17 +28,8 @@ add-v c = let l = c .before .before .before .before .loop in omega (arith, power
 mul-power : tie.Need-mul-power Inv-loop μ-loop
 mul-power c = let l = c .before .before .before .before .loop in omega (arith, power-fits (l .inv) (omega arith) (omega arith))
 
-mul-from : tie.Need-mul-from Inv-loop μ-loop
-mul-from c = search needs
-
 add-from : tie.Need-add-from Inv-loop μ-loop
 add-from c = omega (arith, spelling-fits (c .before .before .before .before .loop .inv) (omega arith))
-
-add-k : tie.Need-add-k Inv-loop μ-loop
-add-k c = search needs
-
-loop-less : tie.Need-loop-less Inv-loop μ-loop
-loop-less c = search needs
 
 loop-again : tie.Need-loop-again Inv-loop μ-loop
 loop-again c = let l = c .before .before .before .before .loop in spelling-more (l .inv) (omega arith) (rw (c .before .before .read-row .ensures) at (c .before .secret-of .ensures .0)) (omega arith)
@@ -58,16 +43,16 @@ good-mask-spec =
     (tie.spec
     Inv-loop
     μ-loop
-    loop-holds
+    (λ c. spelling-start)
     read-row-requires
-    secret-of-requires
+    (λ c κs. search needs)
     returns
     mul-v
     add-v
     mul-power
-    mul-from
+    (λ c. search needs)
     add-from
-    add-k
-    loop-less
+    (λ c. search needs)
+    (λ c. search needs)
     loop-again
     returns-2)

@@ -17,29 +17,20 @@ Inv-loop p n s i count shares from₀ k₀ from k = Testing (λ x. ltb x p) (wor
 abbrev μ-loop : tie.MeasureT-loop
 μ-loop p n s i count shares from₀ k₀ from k = shares - k
 
-mul-shares : tie.Need-mul-shares Inv-loop μ-loop
-mul-shares c = search needs
-
 loop-holds : tie.Need-loop-holds Inv-loop μ-loop
 loop-holds c = testing-start
 
-read-word-requires : tie.Need-read-word-requires Inv-loop μ-loop
-read-word-requires c κs = omega (arith, testing-fits (c .before .loop .inv) (omega arith))
+word-requires : tie.Need-word-requires Inv-loop μ-loop
+word-requires c κs = omega (arith, testing-fits (c .before .loop .inv) (omega arith))
 
 returns : tie.Need-returns Inv-loop μ-loop
-returns c = testing-fails (words-run _) (c .before .before .before .loop .inv) (omega arith) (le-ltb _ _ (rw (c .before .read-word .ensures) at (c .if1 .taken))) ∙ sym (rows-below _ _ _ _ _)
+returns c = testing-fails (words-run _) (c .before .before .before .loop .inv) (omega arith) (le-ltb _ _ (rw (c .before .word .ensures) at (c .if1 .taken))) ∙ sym (rows-below _ _ _ _ _)
 
 add-from : tie.Need-add-from Inv-loop μ-loop
 add-from c = omega (arith, testing-fits (c .before .before .before .loop .inv) (omega arith))
 
-add-k : tie.Need-add-k Inv-loop μ-loop
-add-k c = search needs
-
-loop-less : tie.Need-loop-less Inv-loop μ-loop
-loop-less c = search needs
-
 loop-again : tie.Need-loop-again Inv-loop μ-loop
-loop-again c = testing-more (words-run _) (c .before .before .before .loop .inv) (omega arith) (lt-ltb _ _ (rw (c .before .read-word .ensures) at (c .if1 .left)))
+loop-again c = testing-more (words-run _) (c .before .before .before .loop .inv) (omega arith) (lt-ltb _ _ (rw (c .before .word .ensures) at (c .if1 .left)))
 
 returns-2 : tie.Need-returns-2 Inv-loop μ-loop
 returns-2 c = testing-end (words-run _) (c .before .loop .inv) (omega arith) ∙ sym (rows-below _ _ _ _ _)
@@ -47,15 +38,4 @@ returns-2 c = testing-end (words-run _) (c .before .loop .inv) (omega arith) ∙
 pub all-below-spec : {M : Type 1} → statement M
 all-below-spec =
     tie.close
-    (tie.spec
-    Inv-loop
-    μ-loop
-    mul-shares
-    loop-holds
-    read-word-requires
-    returns
-    add-from
-    add-k
-    loop-less
-    loop-again
-    returns-2)
+    (tie.spec Inv-loop μ-loop (λ c. search needs) loop-holds word-requires returns add-from (λ c. search needs) (λ c. search needs) loop-again returns-2)

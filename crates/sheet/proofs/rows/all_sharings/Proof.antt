@@ -34,20 +34,8 @@ loop-holds c = testing-start
 read-row-requires : tie.Need-read-row-requires Inv-loop μ-loop
 read-row-requires c κs = (omega arith, omega (arith, testing-fits (c .before .loop .inv) (omega arith)))
 
-is-sharing-requires : tie.Need-is-sharing-requires Inv-loop μ-loop
-is-sharing-requires c κs = search needs
-
-mul-from : tie.Need-mul-from Inv-loop μ-loop
-mul-from c = search needs
-
 add-from : tie.Need-add-from Inv-loop μ-loop
 add-from c = omega (arith, testing-fits (c .before .before .before .before .loop .inv) (omega arith))
-
-add-k : tie.Need-add-k Inv-loop μ-loop
-add-k c = search needs
-
-loop-less : tie.Need-loop-less Inv-loop μ-loop
-loop-less c = search needs
 
 loop-again : tie.Need-loop-again Inv-loop μ-loop
 loop-again c = testing-more (rows-run _ _) (c .before .before .before .before .loop .inv) (omega arith) (sharing-read _ _ _ _ _ (c .before .before .read-row .ensures) (c .before .is-sharing .ensures) (c .if1 .taken))
@@ -61,16 +49,5 @@ returns-2 c = testing-end (rows-run _ _) (c .before .loop .inv) (omega arith)
 pub all-sharings-spec : {M : Type 1} → statement M
 all-sharings-spec =
     tie.close
-    (tie.spec
-    Inv-loop
-    μ-loop
-    loop-holds
-    read-row-requires
-    is-sharing-requires
-    mul-from
-    add-from
-    add-k
-    loop-less
-    loop-again
-    returns
-    returns-2)
+    (tie.spec Inv-loop μ-loop loop-holds read-row-requires (λ c κs. search needs) (λ c. search needs) add-from (λ c. search needs) (λ c. search needs)
+    loop-again returns returns-2)

@@ -1,250 +1,187 @@
 -- `Table::perform` meets its contract: by the command.
 -- Assumes nothing.
-use mathlib.Core.Path.{refl}
-use Prim.Native.Nat.{_+_, _≤_}
-use native.Mathlib.Omega.{arith}
+use mathlib.Core.Path.{refl, ap}
+use Prim.Native.Nat.{_^_, _<_}
 use lib.ListN.{length}
 use denote.Ref.{now}
 use borrow.Author.Needs.{needs}
 use Rattle.model.specs.Costs.{costBy}
-use Rattle.machine.proofs.Keeping.{holds-idle}
-use Rattle.machine.proofs.Places.{n-most, field-of}
-use Rattle.machine.proofs.Ranging.{ranged, readied}
+use Rattle.costs.specs.Costing.{countsOf}
+use Rattle.steps.specs.declared.cut.Cut.the-variants.{Mod, Trunc, Ltz, Over, Blocks}
+use Rattle.machine.specs.declared.table.Table.{Table}
+use Rattle.machine.specs.Holding.{lent}
+use Rattle.machine.proofs.Readiness.{input-fits}
+use Rattle.machine.proofs.Performing.{load-performs, fill-performs, add-performs, sub-performs, scale-performs}
+use Rattle.machine.proofs.Matching.{Known, reached, fits, ready, says, done, has-room, multiply-done, compare-done, reveal-asks, reveal-done, cut-asks, cut-done}
 use Rattle.machine.proofs.table.Table.perform.Statement.{statement}
 use Rattle.machine.proofs.table.Table.perform.Tie as tie
 
-enum-told : tie.Need-enum-told
-enum-told c = search needs
+places-requires : tie.Need-places-requires
+places-requires c κs =
+    let start = c .before .before .before .before in
+    let hs : length (now (start .args .s)) < 2 ^ 64 = search needs in
+    let hl : length (now (start .args .log)) < 2 ^ 64 = search needs in
+    reached (start .pre) hs hl
 
-enum-known-c : tie.Need-enum-known-c
-enum-known-c c = search needs
+-- before the match
+abbrev start : tie.After-places → tie.Start
+start c = c .before .before .before .before .before
+
+known : (c : tie.After-places)
+    → Known (now (start c .args .s)) (start c .args .f) (countsOf (start c .args .self .spent .counts)) (start c .args .c)
+    (lent (start c .args .self .cells) (now (start c .args .log)) (now (start c .args .revealed))) (c .before .setting .result) (c .places .result)
+known c = record { is-ready = start c .pre; setting = c .before .setting .ensures; places = c .places .ensures }
 
 load-requires : tie.Need-load-requires
 unfolding costBy
 load-requires c κs =
-    let s = c .before .before .before .before .before .before in
-    let e = c .before .c .given .1 in
-    let R = s .pre .0 in
-    let r = ranged (s .args .f) (R .ranged) e in
-    (R .framed, readied R e .inputs, r)
-
-enum-known-c-2 : tie.Need-enum-known-c-2
-enum-known-c-2 c = search needs
+    let K = known (c .before .before .before) in
+    let R = ready K (c .before .c .given .1) in
+    (R .framed .headed .parties .most, input-fits (R .framed) (countsOf (start (c .before .before .before) .args .self .spent .counts)) (R .inputs), says K (c .before .c .given .1) .0)
 
 fill-requires : tie.Need-fill-requires
-fill-requires c κs =
-    let s = c .before .before .before .before .before .before in
-    let e = c .before .c2 .given .1 in
-    let R = s .pre .0 in
-    let r = ranged (s .args .f) (R .ranged) e in
-    (n-most (R .framed), r .0)
-
-enum-known-c-3 : tie.Need-enum-known-c-3
-enum-known-c-3 c = search needs
+fill-requires c κs = let K = known (c .before .before .before) in (fits K, says K (c .before .c2 .given .1) .0)
 
 add-requires : tie.Need-add-requires
 add-requires c κs =
-    let s = c .before .before .before .before .before .before in
-    let e = c .before .c3 .given .1 in
-    let R = s .pre .0 in
-    let r = ranged (s .args .f) (R .ranged) e in
-    (field-of (R .framed) .modulus-is, n-most (R .framed), r .d-in, r .a-in, r .b-in)
-
-enum-known-c-4 : tie.Need-enum-known-c-4
-enum-known-c-4 c = search needs
+    let K = known (c .before .before .before) in
+    let r = says K (c .before .c3 .given .1) in
+    (fits K, r .0, r .1 .0, r .1 .1 .0)
 
 sub-requires : tie.Need-sub-requires
 sub-requires c κs =
-    let s = c .before .before .before .before .before .before in
-    let e = c .before .c4 .given .1 in
-    let R = s .pre .0 in
-    let r = ranged (s .args .f) (R .ranged) e in
-    (field-of (R .framed) .modulus-is, n-most (R .framed), r .d-in, r .a-in, r .b-in)
-
-enum-known-c-5 : tie.Need-enum-known-c-5
-enum-known-c-5 c = search needs
+    let K = known (c .before .before .before) in
+    let r = says K (c .before .c4 .given .1) in
+    (fits K, r .0, r .1 .0, r .1 .1 .0)
 
 scale-requires : tie.Need-scale-requires
 scale-requires c κs =
-    let s = c .before .before .before .before .before .before in
-    let e = c .before .c5 .given .1 in
-    let R = s .pre .0 in
-    let r = ranged (s .args .f) (R .ranged) e in
-    (field-of (R .framed) .modulus-is, n-most (R .framed), r .0 .d-in, r .0 .a-in)
-
-enum-known-c-6 : tie.Need-enum-known-c-6
-enum-known-c-6 c = search needs
+    let K = known (c .before .before .before) in
+    let r = says K (c .before .c5 .given .1) in
+    (fits K, r .0, r .1 .0)
 
 multiply-requires : tie.Need-multiply-requires
-multiply-requires c κs = readied (c .before .before .before .before .before .before .before .pre .0) (c .before .before .c6 .given .1)
+unfolding costBy
+multiply-requires c κs =
+    let K = known (c .before .before .before .before) in
+    let e = c .before .before .c6 .given .1 in
+    let r = says K e in
+    (has-room K e 1 (ready K e .triples) (ready K e .room), r .0, r .1 .0, r .1 .1 .0)
 
-enum-known-c-7 : tie.Need-enum-known-c-7
-enum-known-c-7 c = search needs
+cut-requires : tie.Need-cut-requires
+cut-requires c κs = cut-asks (known (c .before .before .before .before)) (c .before .before .c7 .given .1) _ _ (Mod _ _) refl
 
-remainder-requires : tie.Need-remainder-requires
-remainder-requires c κs = readied (c .before .before .before .before .before .before .before .pre .0) (c .before .before .c7 .given .1)
+cut-requires-2 : tie.Need-cut-requires-2
+cut-requires-2 c κs = cut-asks (known (c .before .before .before .before)) (c .before .before .c8 .given .1) _ _ (Trunc _ _) refl
 
-enum-known-c-8 : tie.Need-enum-known-c-8
-enum-known-c-8 c = search needs
+cut-requires-3 : tie.Need-cut-requires-3
+cut-requires-3 c κs = cut-asks (known (c .before .before .before .before)) (c .before .before .c9 .given .1) _ _ (Ltz _) refl
 
-floor-requires : tie.Need-floor-requires
-floor-requires c κs = readied (c .before .before .before .before .before .before .before .pre .0) (c .before .before .c8 .given .1)
+cut-requires-4 : tie.Need-cut-requires-4
+cut-requires-4 c κs = cut-asks (known (c .before .before .before .before)) (c .before .before .c10 .given .1) _ _ (Over _ _) refl
 
-enum-known-c-9 : tie.Need-enum-known-c-9
-enum-known-c-9 c = search needs
-
-sign-requires : tie.Need-sign-requires
-sign-requires c κs = readied (c .before .before .before .before .before .before .before .pre .0) (c .before .before .c9 .given .1)
-
-enum-known-c-10 : tie.Need-enum-known-c-10
-enum-known-c-10 c = search needs
-
-over-requires : tie.Need-over-requires
-over-requires c κs = readied (c .before .before .before .before .before .before .before .pre .0) (c .before .before .c10 .given .1)
-
-enum-known-c-11 : tie.Need-enum-known-c-11
-enum-known-c-11 c = search needs
-
-blocks-requires : tie.Need-blocks-requires
-blocks-requires c κs = readied (c .before .before .before .before .before .before .before .pre .0) (c .before .before .c11 .given .1)
-
-enum-known-c-12 : tie.Need-enum-known-c-12
-enum-known-c-12 c = search needs
+cut-requires-5 : tie.Need-cut-requires-5
+cut-requires-5 c κs = cut-asks (known (c .before .before .before .before)) (c .before .before .c11 .given .1) _ _ (Blocks _ _) refl
 
 reveal-requires : tie.Need-reveal-requires
-unfolding costBy
-reveal-requires c κs =
-    let s = c .before .before .before .before .before .before .before .before in
-    let e = c .before .before .before .c12 .given .1 in
-    let room : s .args .self .spent .revealed + 1 ≤ length (now (s .args .revealed)) = rw e at (s .pre .1) in
-    (readied (s .pre .0) e, omega arith)
-
-enum-known-c-13 : tie.Need-enum-known-c-13
-enum-known-c-13 c = search needs
+reveal-requires c κs = reveal-asks (known (c .before .before .before .before .before)) (c .before .before .before .c12 .given .1) refl
 
 compare-requires : tie.Need-compare-requires
-compare-requires c κs = readied (c .before .before .before .before .before .before .before .pre .0) (c .before .before .c13 .given .1)
+unfolding costBy
+compare-requires c κs =
+    let K = known (c .before .before .before .before) in
+    let e = c .before .before .c13 .given .1 in
+    let r = says K e in
+    (has-room K e _ (ready K e .triples) (ready K e .room), r .0, r .1 .1 .0, r .1 .1 .1 .0, r .1 .1 .1 .1 .0)
 
 returns : tie.Need-returns
-returns c = rw (c .enum-told .given .1) (refl, λ log₀ shown₀ x H. holds-idle H)
+returns c =
+    let K = known (c .before .before .before .before) in
+    let e = c .before .before .c .given .1 in
+    (c .load .ensures .1, done K e (load-performs (ready K e) (c .load .ensures .0)))
 
 returns-2 : tie.Need-returns-2
-returns-2 c = rw (c .before .before .c .given .1) (c .load .ensures _ _)
+returns-2 c =
+    let K = known (c .before .before .before .before) in
+    let e = c .before .before .c2 .given .1 in
+    (c .fill .ensures .1, done K e (fill-performs (ready K e) (rw (K .setting) at (c .fill .ensures .0))))
 
 returns-3 : tie.Need-returns-3
-returns-3 c = rw (c .before .before .c2 .given .1) (c .fill .ensures _ _ _)
+returns-3 c =
+    let K = known (c .before .before .before .before) in
+    let e = c .before .before .c3 .given .1 in
+    (c .add .ensures .1, done K e (add-performs (ready K e) (rw (K .setting) at (c .add .ensures .0))))
 
 returns-4 : tie.Need-returns-4
-returns-4 c = rw (c .before .before .c3 .given .1) (c .add .ensures _ _ _)
+returns-4 c =
+    let K = known (c .before .before .before .before) in
+    let e = c .before .before .c4 .given .1 in
+    (c .sub .ensures .1, done K e (sub-performs (ready K e) (rw (K .setting) at (c .sub .ensures .0))))
 
 returns-5 : tie.Need-returns-5
-returns-5 c = rw (c .before .before .c4 .given .1) (c .sub .ensures _ _ _)
+returns-5 c =
+    let K = known (c .before .before .before .before) in
+    let e = c .before .before .c5 .given .1 in
+    (c .scale .ensures .1, done K e (scale-performs (ready K e) (rw (K .setting) at (c .scale .ensures .0))))
 
 returns-6 : tie.Need-returns-6
-returns-6 c = rw (c .before .before .c5 .given .1) (c .scale .ensures _ _ _)
-
-same-length : tie.Need-same-length
-same-length c = search needs
+returns-6 c =
+    let call = c .before .before in
+    let K = known (call .before .before .before .before .before) in
+    let e = call .before .before .before .c6 .given .1 in
+    (call .multiply .ensures .1, multiply-done K e refl (call .multiply .ensures .0))
 
 returns-7 : tie.Need-returns-7
-returns-7 c = rw (c .before .before .before .before .before .c6 .given .1) (c .before .before .multiply .ensures _)
-
-same-length-2 : tie.Need-same-length-2
-same-length-2 c = search needs
+returns-7 c =
+    let call = c .before .before in
+    let K = known (call .before .before .before .before .before) in
+    let e = call .before .before .before .c7 .given .1 in
+    (call .cut .ensures .1, cut-done K e _ _ (Mod _ _) refl (call .cut .ensures .0))
 
 returns-8 : tie.Need-returns-8
-returns-8 c = rw (c .before .before .before .before .before .c7 .given .1) (c .before .before .remainder .ensures _)
-
-same-length-3 : tie.Need-same-length-3
-same-length-3 c = search needs
+returns-8 c =
+    let call = c .before .before in
+    let K = known (call .before .before .before .before .before) in
+    let e = call .before .before .before .c8 .given .1 in
+    (call .cut2 .ensures .1, cut-done K e _ _ (Trunc _ _) refl (call .cut2 .ensures .0))
 
 returns-9 : tie.Need-returns-9
-returns-9 c = rw (c .before .before .before .before .before .c8 .given .1) (c .before .before .floor .ensures _)
-
-same-length-4 : tie.Need-same-length-4
-same-length-4 c = search needs
+returns-9 c =
+    let call = c .before .before in
+    let K = known (call .before .before .before .before .before) in
+    let e = call .before .before .before .c9 .given .1 in
+    (call .cut3 .ensures .1, cut-done K e _ _ (Ltz _) refl (call .cut3 .ensures .0))
 
 returns-10 : tie.Need-returns-10
-returns-10 c = rw (c .before .before .before .before .before .c9 .given .1) (c .before .before .sign .ensures _)
-
-same-length-5 : tie.Need-same-length-5
-same-length-5 c = search needs
+returns-10 c =
+    let call = c .before .before in
+    let K = known (call .before .before .before .before .before) in
+    let e = call .before .before .before .c10 .given .1 in
+    (call .cut4 .ensures .1, cut-done K e _ _ (Over _ _) refl (call .cut4 .ensures .0))
 
 returns-11 : tie.Need-returns-11
-returns-11 c = rw (c .before .before .before .before .before .c10 .given .1) (c .before .before .over .ensures _)
-
-same-length-6 : tie.Need-same-length-6
-same-length-6 c = search needs
+returns-11 c =
+    let call = c .before .before in
+    let K = known (call .before .before .before .before .before) in
+    let e = call .before .before .before .c11 .given .1 in
+    (call .cut5 .ensures .1, cut-done K e _ _ (Blocks _ _) refl (call .cut5 .ensures .0))
 
 returns-12 : tie.Need-returns-12
-returns-12 c = rw (c .before .before .before .before .before .c11 .given .1) (c .before .before .blocks2 .ensures _)
-
-same-length-7 : tie.Need-same-length-7
-same-length-7 c = search needs
-
-same-length-8 : tie.Need-same-length-8
-same-length-8 c = search needs
+returns-12 c =
+    let call = c .before .before .before .before in
+    let K = known (call .before .before .before .before .before .before) in
+    let e = call .before .before .before .before .c12 .given .1 in
+    let same = call .reveal .ensures .1 in
+    (ap (λ (t : Table). t .spent) same, reveal-done K e refl (ap (λ (t : Table). t .cells) same) (call .reveal .ensures .0))
 
 returns-13 : tie.Need-returns-13
-returns-13 c = rw (c .before .before .before .before .before .before .before .before .c12 .given .1) (c .before .before .before .before .reveal .ensures)
-
-same-length-9 : tie.Need-same-length-9
-same-length-9 c = search needs
-
-returns-14 : tie.Need-returns-14
-returns-14 c = rw (c .before .before .before .before .before .c13 .given .1) (c .before .before .compare .ensures _)
+returns-13 c =
+    let call = c .before .before in
+    let K = known (call .before .before .before .before .before) in
+    let e = call .before .before .before .c13 .given .1 in
+    (call .compare .ensures .1, compare-done K e refl (call .compare .ensures .0))
 
 pub perform-spec : {M : Type 1} → statement M
 perform-spec =
     tie.close
-    (tie.spec
-    enum-told
-    enum-known-c
-    load-requires
-    enum-known-c-2
-    fill-requires
-    enum-known-c-3
-    add-requires
-    enum-known-c-4
-    sub-requires
-    enum-known-c-5
-    scale-requires
-    enum-known-c-6
-    multiply-requires
-    enum-known-c-7
-    remainder-requires
-    enum-known-c-8
-    floor-requires
-    enum-known-c-9
-    sign-requires
-    enum-known-c-10
-    over-requires
-    enum-known-c-11
-    blocks-requires
-    enum-known-c-12
-    reveal-requires
-    enum-known-c-13
-    compare-requires
-    returns
-    returns-2
-    returns-3
-    returns-4
-    returns-5
-    returns-6
-    same-length
-    returns-7
-    same-length-2
-    returns-8
-    same-length-3
-    returns-9
-    same-length-4
-    returns-10
-    same-length-5
-    returns-11
-    same-length-6
-    returns-12
-    same-length-7
-    same-length-8
-    returns-13
-    same-length-9
-    returns-14)
+    (tie.spec (λ c κs. search needs) places-requires (λ c. search needs) load-requires (λ c. search needs) fill-requires (λ c. search needs) add-requires (λ c. search needs) sub-requires (λ c. search needs) scale-requires (λ c. search needs) multiply-requires (λ c. search needs) cut-requires (λ c. search needs) cut-requires-2 (λ c. search needs) cut-requires-3 (λ c. search needs) cut-requires-4 (λ c. search needs) cut-requires-5 (λ c. search needs) reveal-requires (λ c. search needs) compare-requires returns returns-2 returns-3 returns-4 returns-5 (λ c. search needs) returns-6 (λ c. search needs) returns-7 (λ c. search needs) returns-8 (λ c. search needs) returns-9 (λ c. search needs) returns-10 (λ c. search needs) returns-11 (λ c. search needs) (λ c. search needs) returns-12 (λ c. search needs) returns-13)

@@ -1,0 +1,3 @@
+pub mod Marks
+pub mod Ranging
+pub mod Missing

@@ -1,0 +1,22 @@
+-- `cut::before` meets its contract: kind by kind.
+-- Assumes nothing.
+use borrow.Author.Needs.{needs}
+use Rattle.steps.proofs.cut.before.Statement.{statement}
+use Rattle.steps.proofs.cut.before.Tie as tie
+
+pub before-spec : {M : Type 1} → statement M
+before-spec =
+    tie.close
+    (tie.spec
+    (λ c. search needs)
+    (λ c. search needs)
+    (λ c. search needs)
+    (λ c. search needs)
+    (λ c κs. search needs)
+    (λ c κs. search needs)
+    (λ c. search needs)
+    (λ c. search needs)
+    (λ c. search needs)
+    (λ c. search needs)
+    (λ c. cc)
+    (λ c. search needs))

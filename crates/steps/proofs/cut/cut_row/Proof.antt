@@ -1,0 +1,28 @@
+-- `cut::cut_row` meets its contract: a remainder between two maps.
+-- Assumes nothing.
+use Rattle.steps.proofs.Cuts.{cut-leaves}
+use borrow.Author.Needs.{needs}
+use Rattle.steps.proofs.cut.cut_row.Statement.{statement}
+use Rattle.steps.proofs.cut.cut_row.Tie as tie
+
+remainder-requires : tie.Need-remainder-requires
+remainder-requires c κs = rw (c .before .before .before .width .ensures, c .before .before .low .ensures) (c .before .before .before .before .before .before .pre)
+
+returns : tie.Need-returns
+returns c =
+    let y = c .before .before .before in
+    let x = y .before .before in
+    let s = x .before .before .before .before .before in
+    cut-leaves (s .args .c) (s .args .a .shares) (x .before .before .width .ensures) (x .before .low .ensures) (x .before2 .ensures) (y .remainder .ensures) (c .after .ensures)
+
+pub cut-row-spec : {M : Type 1} → statement M
+cut-row-spec =
+    tie.close
+    (tie.spec
+    (λ c κs. search needs)
+    (λ c κs. search needs)
+    (λ c κs. search needs)
+    remainder-requires
+    (λ c κs. search needs)
+    (λ c. search needs)
+    returns)
