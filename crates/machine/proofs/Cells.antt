@@ -60,5 +60,5 @@ pub stored : {d : ℕ} {Is : Row → Type 0} (row : Row) {cells cells′ : List 
 stored row seven is e = record { row = row; seven = seven; is = is; put = e }
 
 -- the cells from a place on, as the code lends them
-pub rest-cells : (cells : List ℕ) (i : ℕ) → length cells ≡ 448 → take (448 - i) (drop i cells) ≡ drop i cells
-rest-cells cells i e = take-all (448 - i) (drop i cells) (rw (length-drop i cells) (omega arith))
+pub rest-cells : (cells : List ℕ) (i : ℕ) → take (length cells - i) (drop i cells) ≡ drop i cells
+rest-cells cells i = take-all (length cells - i) (drop i cells) (rw (length-drop i cells) (omega arith))

@@ -4,6 +4,7 @@ ghost use Prim.Native.Nat.{_<_};
 ghost use Rattle.steps.specs.Cuts.{CutRoom, CutLeaves};
 ghost use Rattle.machine.specs.Cells.{registerIn, Stored};
 use crate::table::Table;
+use crate::table::register;
 use sharing::setting::Setting;
 use steps::cut;
 use steps::cut::Cut;
@@ -24,7 +25,7 @@ impl Table {
         requires { ⌜ CutRoom (now s) (now log) setting at c × (d < 64) × (a < 64) ⌝ }
         ensures { λ r. ⌜ Stored d (λ z. CutLeaves (now (s .entry)) setting at c (registerIn (self .cells) a) z (now (log .entry)) (now (log .exit))) (self .cells) (r .cells) × (r .spent ≡ self .spent) ⌝ }
     {
-        let row = cut::cut_row(setting, at, s, log, c, self.row(a));
+        let row = cut::cut_row(setting, at, s, log, c, register(&self.cells[..], a));
         self.put(d, row)
     }
 }

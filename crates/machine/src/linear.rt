@@ -9,6 +9,7 @@ ghost use Rattle.costs.specs.Costing.{countsOf};
 ghost use Rattle.machine.specs.Cells.{registerIn, Stored};
 ghost use Rattle.machine.specs.Places.{inputPlace};
 use crate::table::Table;
+use crate::table::register;
 use sharing::rows;
 use sharing::setting::Setting;
 use sheet::frame::Frame;
@@ -37,7 +38,9 @@ impl Table {
         requires { ⌜ Fitting setting × (d < 64) × (a < 64) × (b < 64) ⌝ }
         ensures { λ r. ⌜ Stored d (λ z. z ≡ Steps.plus (settingOf setting) (registerIn (self .cells) a) (registerIn (self .cells) b)) (self .cells) (r .cells) × (r .spent ≡ self .spent) ⌝ }
     {
-        let row = rows::add_rows(setting, self.row(a), self.row(b));
+        let left = register(&self.cells[..], a);
+        let right = register(&self.cells[..], b);
+        let row = rows::add_rows(setting, left, right);
         self.put(d, row)
     }
 
@@ -46,7 +49,9 @@ impl Table {
         requires { ⌜ Fitting setting × (d < 64) × (a < 64) × (b < 64) ⌝ }
         ensures { λ r. ⌜ Stored d (λ z. z ≡ Steps.minus (settingOf setting) (registerIn (self .cells) a) (registerIn (self .cells) b)) (self .cells) (r .cells) × (r .spent ≡ self .spent) ⌝ }
     {
-        let row = rows::sub_rows(setting, self.row(a), self.row(b));
+        let left = register(&self.cells[..], a);
+        let right = register(&self.cells[..], b);
+        let row = rows::sub_rows(setting, left, right);
         self.put(d, row)
     }
 
@@ -55,7 +60,7 @@ impl Table {
         requires { ⌜ Fitting setting × (d < 64) × (a < 64) ⌝ }
         ensures { λ r. ⌜ Stored d (λ z. z ≡ Steps.times (settingOf setting) v (registerIn (self .cells) a)) (self .cells) (r .cells) × (r .spent ≡ self .spent) ⌝ }
     {
-        let row = rows::scale_row(setting, v, self.row(a));
+        let row = rows::scale_row(setting, v, register(&self.cells[..], a));
         self.put(d, row)
     }
 }

@@ -9,11 +9,30 @@ ghost use Rattle.steps.specs.Places.{Room};
 ghost use Rattle.steps.specs.Promises.{Leaves};
 ghost use Rattle.machine.specs.Cells.{registerIn, Stored, Revealed};
 use crate::table::Table;
+use crate::table::register;
+use sharing::rows::Row;
 use sharing::setting::Setting;
 use steps::comparison;
 use steps::opening;
 use steps::places::Places;
 use steps::product;
+
+// BITLT of v against w registers from b on.
+fn comparison_from(
+    setting: Setting,
+    at: Places,
+    s: &[u8],
+    log: &mut [u32],
+    cells: &[u32],
+    b: usize,
+    w: usize,
+    v: u32,
+) -> Row
+    requires { ⌜ Room (now s) (now log) setting at (w - 1) × (1 ≤ w) × (w ≤ 31) × (b + w ≤ 64) × (length (now cells) ≡ 448) ⌝ }
+    ensures { λ r. ⌜ Leaves (now (s .entry)) setting at (w - 1) (Steps.comparison (settingOf setting) v (Bytes.sevens w (drop (7 * b) (now (cells .entry))))) (r .shares) (now (log .entry)) (now (log .exit)) ⌝ }
+{
+    comparison::comparison(setting, at, s, log, v, w, &cells[7 * b..])
+}
 
 impl Table {
     // MUL d a b
@@ -30,7 +49,9 @@ impl Table {
         requires { ⌜ Room (now s) (now log) setting at 1 × (d < 64) × (a < 64) × (b < 64) ⌝ }
         ensures { λ r. ⌜ Stored d (λ z. Leaves (now (s .entry)) setting at 1 (Steps.product (settingOf setting) (registerIn (self .cells) a) (registerIn (self .cells) b)) z (now (log .entry)) (now (log .exit))) (self .cells) (r .cells) × (r .spent ≡ self .spent) ⌝ }
     {
-        let row = product::product(setting, at, s, log, self.row(a), self.row(b));
+        let left = register(&self.cells[..], a);
+        let right = register(&self.cells[..], b);
+        let row = product::product(setting, at, s, log, left, right);
         self.put(d, row)
     }
 
@@ -49,8 +70,7 @@ impl Table {
         requires { ⌜ Room (now s) (now log) setting at (w - 1) × (d < 64) × (1 ≤ w) × (w ≤ 31) × (b + w ≤ 64) ⌝ }
         ensures { λ r. ⌜ Stored d (λ z. Leaves (now (s .entry)) setting at (w - 1) (Steps.comparison (settingOf setting) v (Bytes.sevens w (drop (7 * b) (self .cells)))) z (now (log .entry)) (now (log .exit))) (self .cells) (r .cells) × (r .spent ≡ self .spent) ⌝ }
     {
-        let cells = self.cells;
-        let row = comparison::comparison(setting, at, s, log, v, w, &cells[7 * b..]);
+        let row = comparison_from(setting, at, s, log, &self.cells[..], b, w, v);
         self.put(d, row)
     }
 
@@ -68,7 +88,7 @@ impl Table {
     {
         let counts = self.spent.counts;
         let j = counts.revealed;
-        revealed[j] = opening::open_at(setting, at.log, log, self.row(a));
+        revealed[j] = opening::open_at(setting, at.log, log, register(&self.cells[..], a));
         self
     }
 }

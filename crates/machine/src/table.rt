@@ -1,7 +1,7 @@
 // The state of a run, by value.
 ghost use mathlib.Core.Path.{_≡_};
 ghost use Prim.Native.Nat.{_+_, _*_, _≤_, _<_};
-ghost use lib.ListN.{replicate};
+ghost use lib.ListN.{length, replicate};
 ghost use Rattle.algebra.specs.Lists.{ontoAt};
 ghost use Rattle.model.specs.Checks as Checks;
 ghost use Rattle.model.specs.Run as Run;
@@ -31,14 +31,6 @@ impl Table {
             cells: [0u32; 448],
             spent: spent::nothing(),
         }
-    }
-
-    // Register a's row.
-    pub fn row(self, a: usize) -> Row
-        requires { ⌜ a < 64 ⌝ }
-        ensures { λ r. ⌜ r .shares ≡ registerIn (self .cells) a ⌝ }
-    {
-        rows::cell_row(&self.cells[..], a)
     }
 
     // The row goes to register d.
@@ -79,4 +71,12 @@ impl Table {
             log: k.openings * n,
         }
     }
+}
+
+// Register a's row, of a table's cells: lent, so that no table is copied for it.
+pub fn register(cells: &[u32], a: usize) -> Row
+    requires { ⌜ (length (now cells) ≡ 448) × (a < 64) ⌝ }
+    ensures { λ r. ⌜ r .shares ≡ registerIn (now (cells .entry)) a ⌝ }
+{
+    rows::cell_row(cells, a)
 }

@@ -146,7 +146,7 @@ sharesBelow S x = allBelow (S .p) (take (S .n) x)
 abbrev pub aSharing : Setting → Row → Bool
 aSharing S x = isSharing (S .p) (S .n) (S .t) x
 
--- The tests of a sheet, each of what must hold, with the number of its refusal. What looks at the header alone:
+-- The tests of a sheet, each of what must hold, with the number of its refusal. Whether there is a header, and what its field, n and t are:
 unfoldable pub headerTests : List ℕ → List (Bool × ℕ)
 headerTests s =
     let h = headerOf s in

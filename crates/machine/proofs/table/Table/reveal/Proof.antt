@@ -8,7 +8,7 @@ use Rattle.machine.proofs.table.Table.reveal.Tie as tie
 returns : tie.Need-returns
 returns c =
     let O = c .before .before .open-at in
-    (record { value = O .result; opens = rw (c .before .before .before .row .ensures) at (O .ensures); shown-is = refl }, refl)
+    (record { value = O .result; opens = rw (c .before .before .before .register .ensures) at (O .ensures); shown-is = refl }, refl)
 
 pub reveal-spec : {M : Type 1} → statement M
 reveal-spec = tie.close (tie.spec (λ c κs. search needs) (λ c κs. search needs) (λ c. search needs) (λ c. search needs) (λ c. search needs) (λ c. search needs) returns)

@@ -11,7 +11,7 @@ returns : tie.Need-returns
 returns c =
     let made = c .before .scale-row in
     let seven : length (made .result .shares) ≡ 7 = search (needs, made .ok) in
-    (stored _ seven (made .ensures ∙ rw (c .before .before .row .ensures)) (c .put .ensures .0), c .put .ensures .1)
+    (stored _ seven (made .ensures ∙ rw (c .before .before .register .ensures)) (c .put .ensures .0), c .put .ensures .1)
 
 pub scale-spec : {M : Type 1} → statement M
 scale-spec = tie.close (tie.spec (λ c κs. search needs) (λ c κs. search needs) (λ c κs. search needs) returns)
