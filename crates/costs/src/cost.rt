@@ -1,12 +1,13 @@
 // What each command reads, writes and spends.
 ghost use mathlib.Core.Path.{_≡_};
 ghost use mathlib.Core.List.{[], _∷_};
-ghost use Prim.Native.Nat.{ℕ, _+_, _-_, _≤_, _<_};
+ghost use Prim.Native.Nat.{_+_, _-_, _≤_, _<_};
 ghost use lib.Dec.{T};
 ghost use Rattle.algebra.specs.Lists.{from};
 ghost use Rattle.model.specs.Script as Paper;
 ghost use Rattle.model.specs.Costs as PaperCosts;
 ghost use Rattle.script.specs.Meaning.{meant};
+ghost use Rattle.sheet.specs.Framed.{settingIn};
 ghost use Rattle.costs.specs.Costing.{countsOf, Costs};
 use crate::counts;
 use crate::counts::Counts;
@@ -67,7 +68,7 @@ fn on_two(d: usize, a: usize, b: usize, counts: Counts) -> Cost
 // REVEAL, which writes none.
 fn revealing(a: usize) -> Cost
     requires { ⌜ a < 64 ⌝ }
-    ensures { λ r. ⌜ ((l : ℕ) → Costs r (PaperCosts.cost l (Paper.REVEAL a))) ⌝ }
+    ensures { λ r. ⌜ Costs r (record { reads = a ∷ []; writes = []; counts = PaperCosts.ofReveal }) ⌝ }
 {
     Cost {
         first: Span { from: a, size: 1 },
@@ -93,7 +94,7 @@ fn comparing(d: usize, b: usize, w: usize) -> Cost
 // What a command with operands in range costs.
 pub fn cost_of(f: Frame, c: Command) -> Cost
     requires { ⌜ (f .l ≤ 31) × (f .largest ≤ 30) × T (Paper.inRanges (f .p) (f .largest) (meant c)) ⌝ }
-    ensures { λ r. ⌜ Costs r (PaperCosts.cost (f .l) (meant c)) ⌝ }
+    ensures { λ r. ⌜ Costs r (PaperCosts.cost (settingIn f) (meant c)) ⌝ }
 {
     match c {
         Command::Load { d } => on_none(d, counts::one_input()),

@@ -34,13 +34,13 @@ pub fn none() -> Counts
 
 // LOAD's, and REVEAL's.
 pub fn one_input() -> Counts
-    ensures { λ r. ⌜ countsOf r ≡ record { inputs = 1; masks = 0; triples = 0; openings = 0; revealed = 0 } ⌝ }
+    ensures { λ r. ⌜ countsOf r ≡ Costs.ofInput ⌝ }
 {
     made(1, 0, 0, 0, 0)
 }
 
 pub fn one_revealed() -> Counts
-    ensures { λ r. ⌜ countsOf r ≡ record { inputs = 0; masks = 0; triples = 0; openings = 1; revealed = 1 } ⌝ }
+    ensures { λ r. ⌜ countsOf r ≡ Costs.ofReveal ⌝ }
 {
     made(0, 0, 0, 1, 1)
 }

@@ -14,7 +14,7 @@ use lib.Seq.{getD-take}
 use Rattle.model.specs.Bytes.{number}
 use Rattle.model.specs.Fields.{bits, inUse, fieldTests, settingTests}
 use Rattle.model.specs.Refusing.{firstFailed}
-use Rattle.model.specs.Sheet.{Header, headerOf, headerSize, maskBits, limits, impliedLength, headerTests, limitTests, lengthTests, sheetTests, sheetNumber, Permitted}
+use Rattle.model.specs.Sheet.{Header, headerOf, headerSize, maskBits, limits, impliedLength, headerTests, limitTests, lengthTests, sheetTests, sheetNumber, Permitted, settingOf}
 use Rattle.model.specs.Run.{Outcome, refusedInput, outcome, stopOf, run}
 use Rattle.model.specs.Exactness.{Accepted}
 use Rattle.model.proofs.Trying.{given-refused, passes, fails, numbered, holding, all-hold, after, setting-numbered, setting-field, setting-people}
@@ -70,9 +70,9 @@ unfolding stopOf
 long-stop s log shown l = rw (long-sheet s l) (given-refused (longNumber (headerOf s)) _ _ (long-number (headerOf s)))
 
 long-run : (s log revealed : List ℕ) → largestSheet < length s
-    → run s log revealed ≡ outcome (headerOf s .n) log revealed (refusedInput (longNumber (headerOf s)) 0)
+    → run s log revealed ≡ outcome (settingOf (headerOf s)) log revealed (refusedInput (longNumber (headerOf s)) 0)
 unfolding run
-long-run s log revealed l = ap (outcome (headerOf s .n) log revealed) (long-stop s (length log) (length revealed) l)
+long-run s log revealed l = ap (outcome (settingOf (headerOf s)) log revealed) (long-stop s (length log) (length revealed) l)
 
 -- the header stands in the first bytes
 module _ (m : ℕ) (s : List ℕ) where
@@ -98,7 +98,7 @@ cut : (s log revealed : List ℕ) → largestSheet < length s → run (take (suc
 cut s log revealed l =
     let m : largestSheet < length (take (suc largestSheet) s) = omega (arith, length-take (suc largestSheet) s, min-eq-left l) in
     long-run (take (suc largestSheet) s) log revealed m
-    ∙ ap (λ (h : Header). outcome (h .n) log revealed (refusedInput (longNumber h) 0)) (header-cut (suc largestSheet) s (unfold headerSize in omega arith))
+    ∙ ap (λ (h : Header). outcome (settingOf h) log revealed (refusedInput (longNumber h) 0)) (header-cut (suc largestSheet) s (unfold headerSize in omega arith))
     ∙ sym (long-run s log revealed l)
 
 longer : (s log revealed : List ℕ) → largestSheet < length s

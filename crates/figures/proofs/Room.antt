@@ -68,11 +68,11 @@ before-next : {s : Spent} {left : ℕ} → Limited 510 s left → Before s left
 before-next a = record { limited = record { balance = a .balance; lines = omega arith }; set = λ r m. a .lines }
 
 -- after a command that reads only set registers, which is what 21 tries
-after : (l : ℕ) (c : Command) {s : Spent} {left : ℕ} → Before s (suc left) → allSet (s .marks) (cost l c .reads) ≡ true → Limited 510 (pay (cost l c) s) left
+after : (S : Setting) (c : Command) {s : Spent} {left : ℕ} → Before s (suc left) → allSet (s .marks) (cost S c .reads) ≡ true → Limited 510 (pay (cost S c) s) left
 unfolding allSet pay
-after l c {s} {left} k t = record { balance = balanced-more l c s (k .limited .balance); lines = go (agrees l c .shown) }
+after S c {s} {left} k t = record { balance = balanced-more S c s (k .limited .balance); lines = go (agrees S c .shown) }
   where
-    go : Shows (cost l c) → s .counts .revealed + cost l c .counts .revealed + left ≤ 510
+    go : Shows (cost S c) → s .counts .revealed + cost S c .counts .revealed + left ≤ 510
     go (hides e) = omega (arith, k .limited .lines)
     go (shows a q e) = omega (arith, k .set a (sym (and-true _) ∙ rw q at t))
 
@@ -89,31 +89,31 @@ module _ (h : Header) (fits : Fitting h) (people : h .n ≤ 7) (log shown : ℕ)
       omega arith
 
   -- 25 and 26 are tried after 21, 23 and 24
-  checked : (l : ℕ) (c : Command) {s : Spent} {left : ℕ} → Before s (suc left) → Other (check u (cost l c) s)
+  checked : (S : Setting) (c : Command) {s : Spent} {left : ℕ} → Before s (suc left) → Other (check u (cost S c) s)
   unfolding check firstFailed pay
-  checked l c {s} k =
-      let c₁ = cost l c in
+  checked S c {s} k =
+      let c₁ = cost S c in
       choice Other (allSet (s .marks) (c₁ .reads))
       (λ r. choice Other (leb (s .counts .inputs + c₁ .counts .inputs) (h .inputs))
       (λ _. choice Other (leb (s .counts .masks + c₁ .counts .masks) (h .masks))
       (λ m. choice Other (leb (s .counts .triples + c₁ .counts .triples) (h .triples))
       (λ t.
-      let q = room (after l c k r) (leb-true _ _ m) (leb-true _ _ t) in
+      let q = room (after S c k r) (leb-true _ _ m) (leb-true _ _ t) in
       rw (le-leb _ _ (q .0), le-leb _ _ (q .1)) (omega arith))
       (λ _. omega arith)) (λ _. omega arith)) (λ _. omega arith)) (λ _. omega arith)
 
   module _ (S : Setting) (input : List Row) (end : ℕ) where
-    finished : (c : Command) (s : State) {left : ℕ} → Before (s .spent) (suc left) → check u (cost (S .l) c) (s .spent) ≡ 0
+    finished : (c : Command) (s : State) {left : ℕ} → Before (s .spent) (suc left) → check u (cost S c) (s .spent) ≡ 0
         → Before (finish S input c s .spent) left
     unfolding finish
-    finished c s k e = before-next (after (S .l) c k (is-true _ (check-passed u (cost (S .l) c) (s .spent) e .reads)))
+    finished c s k e = before-next (after S c k (is-true _ (check-passed u (cost S c) (s .spent) e .reads)))
 
     lines : (xs : List Line) (s : State) → Before (s .spent) (length xs) → Other (runLines S u input end xs s .number)
     lines [] s k = rw (run-end S u input end s) (omega arith)
     lines (x ∷ xs) s k =
         rw (run-line S u input end x xs s)
-        (either Other (check u (cost (S .l) (x .command)) (s .spent)) _ _
-        (λ e. lines xs (finish S input (x .command) s) (finished (x .command) s k e)) (checked (S .l) (x .command) k))
+        (either Other (check u (cost S (x .command)) (s .spent)) _ _
+        (λ e. lines xs (finish S input (x .command) s) (finished (x .command) s k e)) (checked S (x .command) k))
 
   script : (s : List ℕ) (xs : List Line) (end : ℕ) → Short (scriptIn h s) 0 (accepted xs end)
       → Other (runLines (settingOf h) u (inputIn h s) end xs (start (dealIn h s)) .number)
@@ -146,7 +146,7 @@ within : {S : Setting} {u : Supply} {input : List Row} {d : Deal} {xs ys : List 
     → Within u (s .spent)
 unfolding start nothingSpent finish pay
 within begins = omega arith
-within (goes {x} {s = s} p e) = let P = check-passed _ (cost _ (x .command)) (s .spent) e in (P .room, P .shown)
+within {S} (goes {x} {s = s} p e) = let P = check-passed _ (cost S (x .command)) (s .spent) e in (P .room, P .shown)
 
 pub all-held : AllHeld
 unfolding run outcome

@@ -105,7 +105,7 @@ figures =
     (2 ∷ 2 ∷ 0 ∷ [])
     -- LTZ k=15 in field 2: 42 triples, 85 openings; so much is counted, and so much is opened and gone from the deal
     ∷ figure
-    (cost (large .l) (LTZ 0 0 15) .counts .triples ∷ cost (large .l) (LTZ 0 0 15) .counts .openings ∷ length (sign large 15 (of large 1) wide .opened)
+    (cost large (LTZ 0 0 15) .counts .triples ∷ cost large (LTZ 0 0 15) .counts .openings ∷ length (sign large 15 (of large 1) wide .opened)
     ∷ length (sign large 15 (of large 1) wide .deal .triples) ∷ length (sign large 15 (of large 1) wide .deal .masks) ∷ [])
     (42 ∷ 85 ∷ 85 ∷ 0 ∷ 0 ∷ [])
     ∷ []

@@ -15,7 +15,7 @@ use Rattle.model.specs.Checks as Checks
 use Rattle.model.specs.Checks.{check, pay}
 use Rattle.model.proofs.Checks.{Passed, check-passed}
 use Rattle.sheet.specs.declared.frame.Frame.{Frame}
-use Rattle.sheet.specs.Framed.{Framed}
+use Rattle.sheet.specs.Framed.{settingIn, Framed}
 use Rattle.costs.specs.declared.counts.Counts.{Counts}
 use Rattle.costs.specs.declared.cost.Cost.{Cost}
 use Rattle.costs.specs.declared.spent.Spent.{Spent}
@@ -48,17 +48,17 @@ module _ {s : List ℕ} {f : Frame} {supply : Counts} {k : Spent} {c : Command} 
   pub costable : (f .l ≤ 31) × (f .largest ≤ 30) × T (inRanges (f .p) (f .largest) c)
   costable = (omega (arith, fitting (t .framed) .bits), omega (arith, field-of (t .framed) .k-most), t .ranged)
 
-  module _ {need : Cost} (N : Costs need (cost (f .l) c)) where
+  module _ {need : Cost} (N : Costs need (cost (settingIn f) c)) where
     pub checkable : Checkable k supply need
     checkable = record { within = t .within; first = N .first; second = N .second }
 
     module _ {number : ℕ} (E : Numbers supply need k number) where
-      pub number-is : number ≡ check (supplyIn f (length (m .log)) (length (m .shown))) (cost (f .l) c) (spentOf k)
+      pub number-is : number ≡ check (supplyIn f (length (m .log)) (length (m .shown))) (cost (settingIn f) c) (spentOf k)
       number-is = E _ (t .supplied) ∙ rw (N .is)
 
       module _ (z : number ≡ 0) where
-        passed : Passed (supplyIn f (length (m .log)) (length (m .shown))) (cost (f .l) c) (spentOf k)
-        passed = check-passed _ (cost (f .l) c) (spentOf k) (sym number-is ∙ z)
+        passed : Passed (supplyIn f (length (m .log)) (length (m .shown))) (cost (settingIn f) c) (spentOf k)
+        passed = check-passed _ (cost (settingIn f) c) (spentOf k) (sym number-is ∙ z)
 
         pub ready : Ready s f (countsOf (k .counts)) c m
         ready =
@@ -74,14 +74,14 @@ module _ {s : List ℕ} {f : Frame} {supply : Counts} {k : Spent} {c : Command} 
             }
 
         -- what was spent and what is needed are within the supply
-        both-within : Within (Paper.added (countsOf (k .counts)) (cost (f .l) c .counts)) (countsOf supply)
+        both-within : Within (Paper.added (countsOf (k .counts)) (cost (settingIn f) c .counts)) (countsOf supply)
         both-within =
             let U = t .supplied in
             record {
               inputs = omega (arith, passed .inputs, U .inputs);
               masks = omega (arith, passed .masks, U .masks);
               triples = omega (arith, passed .triples, U .triples);
-              openings = omega (arith, le-div-iff-mul-le {k = f .n} {x = k .counts .openings + cost (f .l) c .counts .openings} {y = length (m .log)} (U .parties) .1 (passed .room), U .openings);
+              openings = omega (arith, le-div-iff-mul-le {k = f .n} {x = k .counts .openings + cost (settingIn f) c .counts .openings} {y = length (m .log)} (U .parties) .1 (passed .room), U .openings);
               revealed = omega (arith, passed .shown, U .revealed);
             }
 
@@ -98,6 +98,6 @@ module _ {s : List ℕ} {f : Frame} {supply : Counts} {k : Spent} {c : Command} 
             }
 
         -- what was paid is within the supply again
-        pub paid-within : {r : Spent} → spentOf r ≡ pay (cost (f .l) c) (spentOf k) → Within (countsOf (r .counts)) (countsOf supply)
+        pub paid-within : {r : Spent} → spentOf r ≡ pay (cost (settingIn f) c) (spentOf k) → Within (countsOf (r .counts)) (countsOf supply)
         unfolding pay
         paid-within q = subst (λ (x : Checks.Spent). Within (x .counts) (countsOf supply)) (sym q) both-within

@@ -35,7 +35,7 @@ abbrev pub wholeRun : Course → Stop
 wholeRun C = runFrom C (C .lines) (start (C .deal))
 
 abbrev Held : Course → Lent → State → Type 0
-Held C = Carries (C .setting .n) (C .log) (C .shown)
+Held C = Carries (C .setting) (C .log) (C .shown)
 
 -- before the lines ys, with so much spent
 pub record Going (C : Course) (spent : Spent) (m : Lent) (ys : List Line) : Type 0 where
@@ -56,7 +56,7 @@ at-end {C} G = sym (run-end (C .setting) (C .supply) (C .input) (C .end) (G .sta
 
 module _ {C : Course} {spent : Spent} {m : Lent} {y : Line} {ys : List Line} (G : Going C spent m (y ∷ ys)) where
   abbrev price : Cost
-  price = cost (C .setting .l) (y .command)
+  price = cost (C .setting) (y .command)
 
   abbrev tried : ℕ
   tried = check (C .supply) price (G .state .spent)

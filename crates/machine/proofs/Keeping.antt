@@ -36,23 +36,23 @@ behind : (vs xs : List ℕ) → length vs < length (onto vs xs) → length vs < 
 unfolding onto
 behind vs xs h = omega (arith, length-append vs (drop (length vs) xs), length-drop (length vs) xs)
 
-module _ {n : ℕ} {log₀ shown₀ : List ℕ} {m : Lent} {x : State} (C : Carries n log₀ shown₀ m x) where
+module _ {S : Setting} {log₀ shown₀ : List ℕ} {m : Lent} {x : State} (C : Carries S log₀ shown₀ m x) where
   -- a register's row
   pub register-is : (a : ℕ) → a < 64 → registerIn (m .cells) a ≡ register x a
   register-is a h = sym (get-seven 64 (m .cells) a h) ∙ ap (λ (rows : List Row). getD rows a noRow) (C .registers)
 
   -- what a step opened stands after what was opened before
-  pub log-more : (rows : List Row) (i : ℕ) → i ≡ length (written n (x .opened))
-      → ontoAt i (written n rows) (m .log) ≡ onto (written n (x .opened ++ rows)) log₀
-  log-more rows i e = rw (C .log, over-more log₀ (written n (x .opened)) (written n rows) i e, written-append)
+  pub log-more : (rows : List Row) (i : ℕ) → i ≡ length (written S (x .opened))
+      → ontoAt i (written S rows) (m .log) ≡ onto (written S (x .opened ++ rows)) log₀
+  log-more rows i e = rw (C .log, over-more log₀ (written S (x .opened)) (written S rows) i e, written-append)
 
-  pub log-same : m .log ≡ onto (written n (x .opened ++ [])) log₀
+  pub log-same : m .log ≡ onto (written S (x .opened ++ [])) log₀
   log-same = C .log ∙ rw append-nil
 
-  module _ (S : Setting) (input : List Row) (c : Command) where
+  module _ (input : List Row) (c : Command) where
     -- a command that leaves the row of a step in register d
     pub carries-put : (d : ℕ) (z : Row) (st : Step) {log : List ℕ} → Puts S input c d x st → d < 64 → length z ≡ 7 → z ≡ st .left
-        → log ≡ onto (written n (x .opened ++ st .opened)) log₀ → Carries n log₀ shown₀ (lent (ontoAt (7 * d) z (m .cells)) log (m .shown)) (finish S input c x)
+        → log ≡ onto (written S (x .opened ++ st .opened)) log₀ → Carries S log₀ shown₀ (lent (ontoAt (7 * d) z (m .cells)) log (m .shown)) (finish S input c x)
     carries-put d z st p h seven e l =
         rw (finish-put S input c d x st p, ← e)
         (record {
@@ -63,11 +63,11 @@ module _ {n : ℕ} {log₀ shown₀ : List ℕ} {m : Lent} {x : State} (C : Carr
         })
 
   -- REVEAL
-  pub carries-reveal : (S : Setting) (input : List Row) (a v i : ℕ) {row : Row} {log : List ℕ} → a < 64 → row ≡ registerIn (m .cells) a → v ≡ value S row
-      → i ≡ length (written n (x .opened)) → log ≡ ontoAt i (written n (row ∷ [])) (m .log) → length (x .shown) < length (m .shown)
-      → Carries n log₀ shown₀ (lent (m .cells) log (set (m .shown) (length (x .shown)) v)) (finish S input (REVEAL a) x)
+  pub carries-reveal : (input : List Row) (a v i : ℕ) {row : Row} {log : List ℕ} → a < 64 → row ≡ registerIn (m .cells) a → v ≡ value S row
+      → i ≡ length (written S (x .opened)) → log ≡ ontoAt i (written S (row ∷ [])) (m .log) → length (x .shown) < length (m .shown)
+      → Carries S log₀ shown₀ (lent (m .cells) log (set (m .shown) (length (x .shown)) v)) (finish S input (REVEAL a) x)
   unfolding finish perform command byRows
-  carries-reveal S input a v i h er ev ei el room =
+  carries-reveal input a v i h er ev ei el room =
       let e = er ∙ register-is a h in
       rw (ev, el, e)
       (record {

@@ -116,7 +116,7 @@ module _ {s : List ℕ} {f : Frame} {script : List ℕ} (R : Running s f script)
         running = R;
         lines = R .is-accepted .lines;
         left = script-is;
-        going = rw (e .1, e .0) (going-start (course s f log₀ shown₀ (R .is-accepted)) (carries-start (f .n) log₀ shown₀ (dealOf s f)));
+        going = rw (e .1, e .0) (going-start (course s f log₀ shown₀ (R .is-accepted)) (carries-start (settingIn f) log₀ shown₀ (dealOf s f)));
         supplied = U;
         words = B;
         within = subst (λ (k : Checks.Spent). Within (k .counts) (countsOf supply)) (sym (e .1)) (zero-within supply);
@@ -138,7 +138,7 @@ module _ {s : List ℕ} {f : Frame} {script log₀ shown₀ : List ℕ} {supply 
   -- the run stops here, with this number
   abbrev StopsHere : ℕ → Type 0
   StopsHere number =
-      Reaches (f .n) log₀ shown₀ (stopOf s (length log₀) (length shown₀)) (record { number = number; place = at; table = t }) log shown
+      Reaches (settingIn f) log₀ shown₀ (stopOf s (length log₀) (length shown₀)) (record { number = number; place = at; table = t }) log shown
 
   stops-here : {ys : List Line} {number : ℕ} (G : Before ys)
       → record { number = number; place = at; state = G .state } ≡ wholeRun C → StopsHere number
@@ -148,7 +148,7 @@ module _ {s : List ℕ} {f : Frame} {script log₀ shown₀ : List ℕ} {supply 
         number = ap (λ (x : Run.Stop). x .number) w;
         place = ap (λ (x : Run.Stop). x .place) w;
         spent = G .spends ∙ ap (λ (x : Run.Stop). x .state .spent) w;
-        carries = subst (λ (x : Run.Stop). Carries (f .n) log₀ shown₀ (lent (t .cells) log shown) (x .state)) w (G .carries);
+        carries = subst (λ (x : Run.Stop). Carries (settingIn f) log₀ shown₀ (lent (t .cells) log shown) (x .state)) w (G .carries);
       }
 
   module _ {d : Decoded} (e : standingOf d ≡ standing (readingAt (f .p) (f .largest) script at) (length script) at) where
@@ -198,12 +198,12 @@ module _ {s : List ℕ} {f : Frame} {script log₀ shown₀ : List ℕ} {supply 
       pub costed : (f .l ≤ 31) × (f .largest ≤ 30) × T (inRanges (f .p) (f .largest) (meant c))
       costed = costable trying
 
-      module _ {need : Cost} (N : Costs need (cost (f .l) (meant c))) where
+      module _ {need : Cost} (N : Costs need (cost (settingIn f) (meant c))) where
         pub checked : Checkable (t .spent) supply need
         checked = checkable trying N
 
         module _ {number : ℕ} (E : Numbers supply need (t .spent) number) where
-          same-number : number ≡ Checks.check (supplyIn f (length log₀) (length shown₀)) (cost (f .l) (meant c)) (spentOf (t .spent))
+          same-number : number ≡ Checks.check (supplyIn f (length log₀) (length shown₀)) (cost (settingIn f) (meant c)) (spentOf (t .spent))
           same-number = rw (← L .same-log, ← L .same-shown) (number-is trying N E)
 
           pub refused-here : number ≢ 0 → StopsHere number

@@ -31,31 +31,31 @@ use Rattle.machine.proofs.Keeping.{register-is, log-more, log-same, car
 use Rattle.machine.proofs.Readiness.{input-at, dealt, mask-next}
 
 -- the record's next place
-log-place : {s : List ℕ} {f : Frame} {k : Counts} {x : State} → Counting s f k x → placesOf f k .log ≡ length (written (f .n) (x .opened))
+log-place : {s : List ℕ} {f : Frame} {k : Counts} {x : State} → Counting s f k x → placesOf f k .log ≡ length (written (settingIn f) (x .opened))
 log-place C = omega (arith, C .numbers)
 
 -- what a step left and opened
-stepped : {s : List ℕ} {f : Frame} {k : Counts} {log₀ shown₀ log : List ℕ} {m : Lent} {x : State} {y st : Step} {z : Row} → Counting s f k x → Carries (f .n) log₀ shown₀ m x
-    → y ≡ st → Left (settingFrom f) (placesOf f k) y z (m .log) log → (z ≡ st .left) × (log ≡ onto (written (f .n) (x .opened ++ st .opened)) log₀)
+stepped : {s : List ℕ} {f : Frame} {k : Counts} {log₀ shown₀ log : List ℕ} {m : Lent} {x : State} {y st : Step} {z : Row} → Counting s f k x → Carries (settingIn f) log₀ shown₀ m x
+    → y ≡ st → Left (settingFrom f) (placesOf f k) y z (m .log) log → (z ≡ st .left) × (log ≡ onto (written (settingIn f) (x .opened ++ st .opened)) log₀)
 stepped {f = f} {k} {m = m} {st = st} C H e L = (
   L .row-is ∙ ap (λ (v : Step). v .left) e,
-  L .log-is ∙ ap (λ (v : Step). ontoAt (placesOf f k .log) (written (f .n) (v .opened)) (m .log)) e ∙ log-more H (st .opened) _ (log-place C),
+  L .log-is ∙ ap (λ (v : Step). ontoAt (placesOf f k .log) (written (settingIn f) (v .opened)) (m .log)) e ∙ log-more H (st .opened) _ (log-place C),
 )
 
 module _ (s : List ℕ) (f : Frame) (k : Counts) (c : Command) (m : Lent) (d : ℕ) (h : d < 64) (st : State → Step)
     (puts : (x : State) → Puts (settingIn f) (inputsOf s f) c d x (st x)) where
   -- the row of a step of the state went to register d
   performs : {Is : Row → Type 0} {cells log : List ℕ} → Stored d Is (m .cells) cells
-      → ((log₀ shown₀ : List ℕ) (x : State) → Counting s f k x → Carries (f .n) log₀ shown₀ m x → (z : Row) → Is z
-      → (z ≡ st x .left) × (log ≡ onto (written (f .n) (x .opened ++ st x .opened)) log₀))
+      → ((log₀ shown₀ : List ℕ) (x : State) → Counting s f k x → Carries (settingIn f) log₀ shown₀ m x → (z : Row) → Is z
+      → (z ≡ st x .left) × (log ≡ onto (written (settingIn f) (x .opened ++ st x .opened)) log₀))
       → Performs s f k c m (lent cells log (m .shown))
   performs P each log₀ shown₀ x C H =
       let E = each log₀ shown₀ x C H (P .row) (P .is) in
-      rw (P .put) (carries-put H (settingIn f) (inputsOf s f) c d (P .row) (st x) (puts x) h (P .seven) (E .0) (E .1))
+      rw (P .put) (carries-put H (inputsOf s f) c d (P .row) (st x) (puts x) h (P .seven) (E .0) (E .1))
 
   -- the code's step is the state's
   abbrev Same : (Deal → Step) → Type 0
-  Same step = (log₀ shown₀ : List ℕ) (x : State) → Carries (f .n) log₀ shown₀ m x → step (x .deal) ≡ st x
+  Same step = (log₀ shown₀ : List ℕ) (x : State) → Carries (settingIn f) log₀ shown₀ m x → step (x .deal) ≡ st x
 
   performs-step : {step : Deal → Step} {cells log : List ℕ} (t : ℕ) → k .triples + t ≤ f .triples → Same step
       → Stored d (λ z. Leaves s (settingFrom f) (placesOf f k) t step z (m .log) log) (m .cells) cells → Performs s f k c m (lent cells log (m .shown))
@@ -69,7 +69,7 @@ module _ (s : List ℕ) (f : Frame) (k : Counts) (c : Command) (m : Lent) (d : �
 -- a row made without an opening
 performs-made : (s : List ℕ) (f : Frame) (k : Counts) (c : Command) (m : Lent) (d : ℕ) → d < 64 → (row : State → Row)
     → ((x : State) → Puts (settingIn f) (inputsOf s f) c d x (made (x .deal) (row x))) → {y : Row} {cells : List ℕ}
-    → ((log₀ shown₀ : List ℕ) (x : State) → Counting s f k x → Carries (f .n) log₀ shown₀ m x → y ≡ row x)
+    → ((log₀ shown₀ : List ℕ) (x : State) → Counting s f k x → Carries (settingIn f) log₀ shown₀ m x → y ≡ row x)
     → Stored d (λ z. z ≡ y) (m .cells) cells → Performs s f k c m (lent cells (m .log) (m .shown))
 performs-made s f k c m d h row puts same P =
     performs s f k c m d h (λ x. made (x .deal) (row x)) puts P (λ log₀ shown₀ x C H z e. (e ∙ same log₀ shown₀ x C H, log-same H))
@@ -140,7 +140,7 @@ module _ {s : List ℕ} {f : Frame} {k : Counts} {m : Lent} where
   reveal-performs {a} R W log₀ shown₀ x C H =
       let h : a < 64 = operands (f .p) (f .largest) (REVEAL a) (R .ranged) .0 in
       let e : k .revealed ≡ length (x .shown) = sym (C .shown) in
-      rw (W .shown-is, e) (carries-reveal H (settingIn f) (inputsOf s f) a _ _ h refl (W .opens .value-is) (log-place C) (W .opens .log-is) (omega (arith, C .shown, R .space)))
+      rw (W .shown-is, e) (carries-reveal H (inputsOf s f) a _ _ h refl (W .opens .value-is) (log-place C) (W .opens .log-is) (omega (arith, C .shown, R .space)))
 
 -- the command of a cut of register a that goes to register d
 abbrev pub cutCommand : ℕ → ℕ → Cut → Command
@@ -173,7 +173,7 @@ pub record CutReady (s : List ℕ) (f : Frame) (k : Counts) (m : Lent) (d a : �
   pub openings : (k .openings + (1 + 2 * modTriples (f .l) (lowOf y))) * f .n ≤ length (m .log)
 
 module _ {s : List ℕ} {f : Frame} {k : Counts} {m : Lent} {d a : ℕ} where
-  with-m : (y : Cut) {c : Command} → Ready s f k c m → cost (f .l) c ≡ masking d a (modTriples (f .l) (lowOf y)) → d < 64 → a < 64 → widthOf y ≤ f .largest → 1 ≤ lowOf y → lowOf y < widthOf y
+  with-m : (y : Cut) {c : Command} → Ready s f k c m → cost (settingIn f) c ≡ masking d a (modTriples (f .l) (lowOf y)) → d < 64 → a < 64 → widthOf y ≤ f .largest → 1 ≤ lowOf y → lowOf y < widthOf y
       → CutReady s f k m d a y
   with-m y R e hd ha hw hl hm =
       record {

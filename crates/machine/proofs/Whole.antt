@@ -3,7 +3,7 @@
 use mathlib.Core.Path.{_≡_, refl, sym, ap, subst, _∙_}
 use mathlib.Core.Logic.{_≢_}
 use mathlib.Core.List.{List}
-use Prim.Native.Nat.{ℕ, _+_, _-_, _<_}
+use Prim.Native.Nat.{ℕ, _+_, _-_, _*_, _<_}
 use native.Mathlib.Omega.{arith}
 use lib.ListN.{length, take, drop, replicate}
 use Rattle.algebra.specs.Lists.{onto}
@@ -23,6 +23,7 @@ use Rattle.sheet.specs.declared.header.Read.{Read}
 use Rattle.sheet.specs.declared.header.Read.the-variants.{Sheet, Refused}
 use Rattle.sheet.specs.Framed.{settingIn, Framed}
 use Rattle.sheet.specs.Reading.{numberOf, Reads}
+use Rattle.sheet.proofs.Headers as Headers
 use Rattle.script.specs.Meaning.{scriptNumber, scriptPlace}
 use Rattle.costs.specs.Costing.{supplyIn}
 use Rattle.machine.specs.declared.run.Answer.{Answer}
@@ -32,7 +33,7 @@ use Rattle.machine.specs.Answers.{Unrefused, Running, RefusedWith, Reach
 -- the frame's parts are the header's
 module _ {s : List ℕ} {f : Frame} (F : Framed s f) where
   setting-is : settingIn f ≡ settingOf (headerOf s)
-  setting-is = let H = F .headed in λ i. record { p = H .p-is i; l = H .l-is i; n = H .n-is i; t = H .t-is i }
+  setting-is = sym (Headers.setting-is (F .headed))
 
   supply-is : (log shown : ℕ) → supplyIn f log shown ≡ supplyOf (headerOf s) log shown
   supply-is log shown =
@@ -43,12 +44,10 @@ module _ {s : List ℕ} {f : Frame} (F : Framed s f) where
   input-place = F .headed .inputs-place ∙ ap (λ (k : ℕ). headerSize (headerOf s) + k) (F .headed .script-is)
 
   inputs-are : inputsOf s f ≡ inputIn (headerOf s) s
-  unfolding inputIn
-  inputs-are = let H = F .headed in rw (input-place, H .n-is, H .inputs-is)
+  inputs-are = sym (Headers.inputs-are (F .headed) s)
 
   deal-is : dealOf s f ≡ dealIn (headerOf s) s
-  unfolding dealIn
-  deal-is = let H = F .headed in rw (H .triples-place, H .masks-place, input-place, H .n-is, H .l-is, H .inputs-is, H .masks-is, H .triples-is)
+  deal-is = sym (Headers.deal-is (F .headed) s)
 
   module _ (A : Accepted s) (log shown : ℕ) where
     pub stop-is : runLines (settingIn f) (supplyIn f log shown) (inputsOf s f) (A .end) (A .lines) (start (dealOf s f)) ≡ stopOf s log shown
@@ -69,14 +68,14 @@ module _ {s : List ℕ} {f : Frame} (F : Framed s f) where
           counts = refl;
           masks = C .masks-left ∙ ap (λ (d : Deal). drop (x .spent .counts .masks) (d .masks)) (sym deal-is);
           triples = C .triples-left ∙ ap (λ (d : Deal). drop (x .spent .counts .triples) (d .triples)) (sym deal-is);
-          numbers = rw (F .headed .n-is) (C .numbers);
+          numbers = subst (λ (S : Setting). length (written S (x .opened)) ≡ S .n * x .spent .counts .openings) (sym setting-is) (C .numbers);
           shown = C .shown;
         }
 
 -- a run begins with nothing written
-pub carries-start : (n : ℕ) (log shown : List ℕ) (d : Deal) → Carries n log shown (lent (replicate 448 0) log shown) (start d)
+pub carries-start : (S : Setting) (log shown : List ℕ) (d : Deal) → Carries S log shown (lent (replicate 448 0) log shown) (start d)
 unfolding start onto written sevens
-carries-start n log shown d = record { size = refl; registers = refl; log = refl; shown = refl }
+carries-start S log shown d = record { size = refl; registers = refl; log = refl; shown = refl }
 
 -- the promise of `run::run`
 abbrev Answers : List ℕ → List ℕ → List ℕ → Answer → List ℕ → List ℕ → Type 0
@@ -159,10 +158,10 @@ module _ {s : List ℕ} {f : Frame} (K : Unrefused s f) where
         }
 
   -- the stop of a run, as the answer says it
-  pub answers-stop : {log₀ shown₀ log shown : List ℕ} {a : Answer} → Reaches (f .n) log₀ shown₀ (stopOf s (length log₀) (length shown₀)) a log shown
+  pub answers-stop : {log₀ shown₀ log shown : List ℕ} {a : Answer} → Reaches (settingIn f) log₀ shown₀ (stopOf s (length log₀) (length shown₀)) a log shown
       → Answers s log₀ shown₀ a log shown
   unfolding run outcome
-  answers-stop R =
+  answers-stop {log₀} {shown₀} R =
       (λ i.
       record {
         number = R .number i;
@@ -173,4 +172,4 @@ module _ {s : List ℕ} {f : Frame} (K : Unrefused s f) where
         log = R .carries .log i;
         revealed = R .carries .shown i;
       })
-      ∙ rw (K .framed .headed .n-is)
+      ∙ ap (λ (S : Setting). outcome S log₀ shown₀ (stopOf s (length log₀) (length shown₀))) (setting-is (K .framed))

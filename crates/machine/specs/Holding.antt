@@ -7,6 +7,7 @@ use lib.Dec.{T}
 use lib.ListN.{length, drop}
 use Rattle.algebra.specs.Lists.{onto}
 use Rattle.model.specs.Bytes.{sevens}
+use Rattle.model.specs.Deal.{Setting}
 use Rattle.model.specs.Steps.{written}
 use Rattle.model.specs.Counts.{Counts}
 use Rattle.model.specs.Script.{Command, inRanges}
@@ -25,11 +26,11 @@ pub record Lent : Type 0 where
 abbrev pub lent : List ℕ → List ℕ → List ℕ → Lent
 lent cells log shown = record { cells = cells; log = log; shown = shown }
 
--- The state x with n parties: its registers; and in both buffers what was written, over what they held before the run, log₀ and shown₀.
-pub record Carries (n : ℕ) (log₀ shown₀ : List ℕ) (m : Lent) (x : State) : Type 0 where
+-- The state x of a run with the setting S: its registers; and in both buffers what was written, over what they held before the run, log₀ and shown₀.
+pub record Carries (S : Setting) (log₀ shown₀ : List ℕ) (m : Lent) (x : State) : Type 0 where
   pub size : length (m .cells) ≡ 448
   pub registers : sevens 64 (m .cells) ≡ x .registers
-  pub log : m .log ≡ onto (written n (x .opened)) log₀
+  pub log : m .log ≡ onto (written S (x .opened)) log₀
   pub shown : m .shown ≡ onto (x .shown) shown₀
 
 -- The counts k are those of the state x: so much is gone from the front of the deal, and so much was opened and revealed. Of the states of a run this is
@@ -38,7 +39,7 @@ pub record Counting (s : List ℕ) (f : Frame) (k : Counts) (x : State) : Type 0
   pub counts : x .spent .counts ≡ k
   pub masks : x .deal .masks ≡ drop (k .masks) (dealOf s f .masks)
   pub triples : x .deal .triples ≡ drop (k .triples) (dealOf s f .triples)
-  pub numbers : length (written (f .n) (x .opened)) ≡ f .n * k .openings
+  pub numbers : length (written (settingIn f) (x .opened)) ≡ f .n * k .openings
   pub shown : length (x .shown) ≡ k .revealed
 
 -- A command may be performed: its operands are in range, and inputs, masks, triples and the room in both buffers suffice.
@@ -46,14 +47,14 @@ pub record Ready (s : List ℕ) (f : Frame) (k : Counts) (c : Command) (m : Lent
   pub framed : Framed s f
   pub ranged : T (inRanges (f .p) (f .largest) c)
   pub size : length (m .cells) ≡ 448
-  pub inputs : k .inputs + cost (f .l) c .counts .inputs ≤ f .inputs
-  pub masks : k .masks + cost (f .l) c .counts .masks ≤ f .masks
-  pub triples : k .triples + cost (f .l) c .counts .triples ≤ f .triples
-  pub room : (k .openings + cost (f .l) c .counts .openings) * f .n ≤ length (m .log)
-  pub space : k .revealed + cost (f .l) c .counts .revealed ≤ length (m .shown)
+  pub inputs : k .inputs + cost (settingIn f) c .counts .inputs ≤ f .inputs
+  pub masks : k .masks + cost (settingIn f) c .counts .masks ≤ f .masks
+  pub triples : k .triples + cost (settingIn f) c .counts .triples ≤ f .triples
+  pub room : (k .openings + cost (settingIn f) c .counts .openings) * f .n ≤ length (m .log)
+  pub space : k .revealed + cost (settingIn f) c .counts .revealed ≤ length (m .shown)
 
 -- A command performed: whatever state with these counts was held, the finished state is held.
 abbrev pub Performs : List ℕ → Frame → Counts → Command → Lent → Lent → Type 0
 Performs s f k c m m′ =
-    (log₀ shown₀ : List ℕ) (x : State) → Counting s f k x → Carries (f .n) log₀ shown₀ m x
-    → Carries (f .n) log₀ shown₀ m′ (finish (settingIn f) (inputsOf s f) c x)
+    (log₀ shown₀ : List ℕ) (x : State) → Counting s f k x → Carries (settingIn f) log₀ shown₀ m x
+    → Carries (settingIn f) log₀ shown₀ m′ (finish (settingIn f) (inputsOf s f) c x)

@@ -2,6 +2,7 @@
 ghost use mathlib.Core.Path.{_≡_};
 ghost use lib.ListN.{length};
 ghost use Rattle.model.specs.Run as Run;
+ghost use Rattle.sheet.specs.Framed.{settingIn};
 ghost use Rattle.sheet.specs.Reading.{numberOf};
 ghost use Rattle.machine.specs.Answers.{Unrefused, Running, Reaches, RefusedWith, outcomeOf};
 use crate::table::Table;
@@ -24,7 +25,7 @@ pub struct Answer {
 // ends the run".
 fn run_script(f: Frame, s: &[u8], script: &[u8], log: &mut [u32], revealed: &mut [u32]) -> Answer
     requires { ⌜ Running (now s) f (now script) ⌝ }
-    ensures { λ r. ⌜ Reaches (f .n) (now (log .entry)) (now (revealed .entry)) (Run.stopOf (now (s .entry)) (length (now (log .entry))) (length (now (revealed .entry)))) r (now (log .exit)) (now (revealed .exit)) ⌝ }
+    ensures { λ r. ⌜ Reaches (settingIn f) (now (log .entry)) (now (revealed .entry)) (Run.stopOf (now (s .entry)) (length (now (log .entry))) (length (now (revealed .entry)))) r (now (log .exit)) (now (revealed .exit)) ⌝ }
 {
     let supply = spent::supply(f, log.len(), revealed.len());
     let mut table = Table::new();

@@ -18,29 +18,29 @@ use Rattle.model.proofs.StepLaws.{run-end, run-line}
 abbrev pub Balanced : Counts → Type 0
 Balanced x = x .openings ≡ x .masks + 2 * x .triples + x .revealed
 
-pub openings-are : (l : ℕ) (c : Command) → Balanced (cost l c .counts)
+pub openings-are : (S : Setting) (c : Command) → Balanced (cost S c .counts)
 unfolding costBy
-openings-are l (LOAD d) = refl
-openings-are l (CONST d v) = refl
-openings-are l (ADD d a b) = refl
-openings-are l (SUB d a b) = refl
-openings-are l (SCALE d a v) = refl
-openings-are l (MUL d a b) = refl
-openings-are l (MOD d a k m) = omega arith
-openings-are l (TRUNC d a k m) = omega arith
-openings-are l (LTZ d a k) = omega arith
-openings-are l (OVER d a k v) = omega arith
-openings-are l (BLOCKS d a k m) = omega arith
-openings-are l (REVEAL a) = refl
-openings-are l (BITLT d b w v) = omega arith
+openings-are S (LOAD d) = refl
+openings-are S (CONST d v) = refl
+openings-are S (ADD d a b) = refl
+openings-are S (SUB d a b) = refl
+openings-are S (SCALE d a v) = refl
+openings-are S (MUL d a b) = refl
+openings-are S (MOD d a k m) = omega arith
+openings-are S (TRUNC d a k m) = omega arith
+openings-are S (LTZ d a k) = omega arith
+openings-are S (OVER d a k v) = omega arith
+openings-are S (BLOCKS d a k m) = omega arith
+openings-are S (REVEAL a) = refl
+openings-are S (BITLT d b w v) = omega arith
 
 pub balanced-start : (d : Deal) → Balanced (start d .spent .counts)
 unfolding start nothingSpent
 balanced-start d = refl
 
-pub balanced-more : (l : ℕ) (c : Command) (s : Spent) → Balanced (s .counts) → Balanced (pay (cost l c) s .counts)
+pub balanced-more : (S : Setting) (c : Command) (s : Spent) → Balanced (s .counts) → Balanced (pay (cost S c) s .counts)
 unfolding pay
-balanced-more l c s e = omega (arith, openings-are l c)
+balanced-more S c s e = omega (arith, openings-are S c)
 
 either : (number : ℕ) (x y : Stop) → Balanced (x .state .spent .counts) → Balanced (y .state .spent .counts) → Balanced (given number x y .state .spent .counts)
 either zero x y e f = e
@@ -51,8 +51,8 @@ unfolding finish
 lines S u input end [] s e = rw (run-end S u input end s) e
 lines S u input end (x ∷ xs) s e =
     rw (run-line S u input end x xs s)
-    (either (check u (cost (S .l) (x .command)) (s .spent)) _ _
-    (lines S u input end xs (finish S input (x .command) s) (balanced-more (S .l) (x .command) (s .spent) e)) e)
+    (either (check u (cost S (x .command)) (s .spent)) _ _
+    (lines S u input end xs (finish S input (x .command) s) (balanced-more S (x .command) (s .spent) e)) e)
 
 pub balance : Balance
 unfolding run outcome stopOf runScript

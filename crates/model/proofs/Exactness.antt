@@ -35,16 +35,16 @@ all-tail : {A : Type 0} {P : A → Type 0} {x : A} {xs : List A} → All P (x �
 all-tail (one p ps) = ps
 
 -- sums over one more line, and what a finished command adds
-sum-more : (l : ℕ) (xs : List Line) (x : Line) → sumOf l (xs ++ (x ∷ [])) ≡ added (sumOf l xs) (cost l (x .command) .counts)
+sum-more : (S : Setting) (xs : List Line) (x : Line) → sumOf S (xs ++ (x ∷ [])) ≡ added (sumOf S xs) (cost S (x .command) .counts)
 unfolding sumOf
-sum-more l [] x = added-none _ ∙ sym (none-added _)
-sum-more l (y ∷ ys) x = ap (added (cost l (y .command) .counts)) (sum-more l ys x) ∙ sym (added-assoc _ _ _)
+sum-more S [] x = added-none _ ∙ sym (none-added _)
+sum-more S (y ∷ ys) x = ap (added (cost S (y .command) .counts)) (sum-more S ys x) ∙ sym (added-assoc _ _ _)
 
 -- of them, the inputs
-loads-are : (l : ℕ) (xs : List Line) → sumOf l xs .inputs ≡ loads l xs
+loads-are : (S : Setting) (xs : List Line) → sumOf S xs .inputs ≡ loads S xs
 unfolding sumOf loads
-loads-are l [] = refl
-loads-are l (x ∷ xs) = ap (λ (k : ℕ). cost l (x .command) .counts .inputs + k) (loads-are l xs)
+loads-are S [] = refl
+loads-are S (x ∷ xs) = ap (λ (k : ℕ). cost S (x .command) .counts .inputs + k) (loads-are S xs)
 
 module _ {S : Setting} {K : ℕ} {u : Supply} {input : List Row} {d : Deal} (G : Given S K u input d) (xs : List Line) (ok : All (InRange (S .p) K) xs) where
   -- what is known after each finished command
@@ -55,7 +55,7 @@ module _ {S : Setting} {K : ℕ} {u : Supply} {input : List Row} {d : Deal} (G :
     pub ranges : All (InRange (S .p) K) ys
     pub done : List Line
     pub split : xs ≡ done ++ ys
-    pub counts : s .spent .counts ≡ sumOf (S .l) done
+    pub counts : s .spent .counts ≡ sumOf S done
 
   known-start : Known xs (start d) (replicate 64 0) []
   unfolding start nothingSpent sumOf
@@ -70,10 +70,10 @@ module _ {S : Setting} {K : ℕ} {u : Supply} {input : List Row} {d : Deal} (G :
         counts = refl;
       }
 
-  passed : (x : Line) (s : State) → check u (cost (S .l) (x .command)) (s .spent) ≡ 0 → Passed u (cost (S .l) (x .command)) (s .spent)
-  passed x s e = check-passed u (cost (S .l) (x .command)) (s .spent) e
+  passed : (x : Line) (s : State) → check u (cost S (x .command)) (s .spent) ≡ 0 → Passed u (cost S (x .command)) (s .spent)
+  passed x s e = check-passed u (cost S (x .command)) (s .spent) e
 
-  known-more : {x : Line} {ys : List Line} {s : State} {vs ws : List ℕ} → Known (x ∷ ys) s vs ws → check u (cost (S .l) (x .command)) (s .spent) ≡ 0
+  known-more : {x : Line} {ys : List Line} {s : State} {vs ws : List ℕ} → Known (x ∷ ys) s vs ws → check u (cost S (x .command)) (s .spent) ≡ 0
       → Known ys (finish S input (x .command) s) (plainly (S .p) (secrets S input) (s .spent .counts .inputs) (x .command) vs) (ws ++ reveals (x .command) vs)
   unfolding finish pay
   known-more {x} {ys} {s} {vs} {ws} q e =
@@ -81,11 +81,11 @@ module _ {S : Setting} {K : ℕ} {u : Supply} {input : List Row} {d : Deal} (G :
       record {
         holds = done .holds;
         shown = done .shown ∙ ap (λ zs. zs ++ reveals (x .command) vs) (q .shown);
-        balance = balanced-more (S .l) (x .command) (s .spent) (q .balance);
+        balance = balanced-more S (x .command) (s .spent) (q .balance);
         ranges = all-tail (q .ranges);
         done = q .done ++ (x ∷ []);
         split = q .split ∙ rw append-assoc;
-        counts = ap (λ (x′ : Counts). added x′ (cost (S .l) (x .command) .counts)) (q .counts) ∙ sym (sum-more (S .l) (q .done) x);
+        counts = ap (λ (x′ : Counts). added x′ (cost S (x .command) .counts)) (q .counts) ∙ sym (sum-more S (q .done) x);
       }
 
   known : {ys : List Line} {s : State} {vs ws : List ℕ} → Passes S u input d xs ys s vs ws → Known ys s vs ws
@@ -93,7 +93,7 @@ module _ {S : Setting} {K : ℕ} {u : Supply} {input : List Row} {d : Deal} (G :
   known (goes p e) = known-more (known p) e
 
   next-does : {y : Line} {ys : List Line} {s : State} {vs ws : List ℕ} → Passes S u input d xs (y ∷ ys) s vs ws
-      → check u (cost (S .l) (y .command)) (s .spent) ≡ 0 → Does S K input (y .command) s (finish S input (y .command) s)
+      → check u (cost S (y .command)) (s .spent) ≡ 0 → Does S K input (y .command) s (finish S input (y .command) s)
   next-does {y} {s = s} {vs} p e =
       let q = known p in
       does G s vs (q .holds) (y .command) (all-head (q .ranges)) (passed y s e)
@@ -121,12 +121,12 @@ module _ {S : Setting} {K : ℕ} {u : Supply} {input : List Row} {d : Deal} (G :
         done = q .done;
         split = q .split;
         counts = q .counts;
-        inputs = ap (λ (k : Counts). k .inputs) (q .counts) ∙ loads-are (S .l) (q .done);
+        inputs = ap (λ (k : Counts). k .inputs) (q .counts) ∙ loads-are S (q .done);
         balance = q .balance;
         masks-left = q .holds .used .masks;
         triples-left = q .holds .used .triples;
         opened = q .holds .opens;
-        numbers = length-written (S .n) (G .parties .most) (all-map (λ x. length-sharing (G .field .modulus-is) (G .parties)) (q .holds .rows)) ∙ ap (λ (o : ℕ). S .n * o) (q .holds .opens);
+        numbers = length-written S (G .parties .most) (all-map (λ x. length-sharing (G .field .modulus-is) (G .parties)) (q .holds .rows)) ∙ ap (λ (o : ℕ). S .n * o) (q .holds .opens);
         shown = q .holds .shows;
       }
 
@@ -134,10 +134,10 @@ module _ {S : Setting} {K : ℕ} {u : Supply} {input : List Row} {d : Deal} (G :
   stopped : (end : ℕ) (ys : List Line) {s : State} {vs ws : List ℕ} → Passes S u input d xs ys s vs ws → Stopped S u input d xs end (runLines S u input end ys s)
   stopped end [] {s} p = rw (run-end S u input end s) (record { left = []; plain = _; revealed = _; passes = p; stops = at-end refl refl })
   stopped end (y ∷ ys) {s} p =
-      rw (run-line S u input end y ys s) (either (check u (cost (S .l) (y .command)) (s .spent)) refl (λ e. stopped end ys (goes p e)))
+      rw (run-line S u input end y ys s) (either (check u (cost S (y .command)) (s .spent)) refl (λ e. stopped end ys (goes p e)))
     where
-      either : (k : ℕ) → k ≡ check u (cost (S .l) (y .command)) (s .spent)
-          → (check u (cost (S .l) (y .command)) (s .spent) ≡ 0 → Stopped S u input d xs end (runLines S u input end ys (finish S input (y .command) s)))
+      either : (k : ℕ) → k ≡ check u (cost S (y .command)) (s .spent)
+          → (check u (cost S (y .command)) (s .spent) ≡ 0 → Stopped S u input d xs end (runLines S u input end ys (finish S input (y .command) s)))
           → Stopped S u input d xs end (Refusing.given k (runLines S u input end ys (finish S input (y .command) s)) (record { number = k; place = y .place; state = s }))
       either zero e go = go (sym e)
       either (suc k) e go = record { left = y ∷ ys; plain = _; revealed = _; passes = p; stops = at-line e (λ z. omega arith) refl }

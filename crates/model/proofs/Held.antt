@@ -101,7 +101,7 @@ module _ {S : Setting} {K : ℕ} {u : Supply} {input : List Row} {d₀ : Deal} (
   triples-count : {s : State} {vs : List ℕ} → Holds S d₀ s vs → length (s .deal .triples) ≡ u .triples - s .spent .counts .triples
   triples-count {s} H = ap length (H .used .triples) ∙ length-drop (s .spent .counts .triples) (d₀ .triples) ∙ rw (G .formed .triples-many)
 
-  module _ (s : State) (vs : List ℕ) (H : Holds S d₀ s vs) (c : Command) (ok : T (inRanges (S .p) K c)) (Q : Passed u (cost (S .l) c) (s .spent)) where
+  module _ (s : State) (vs : List ℕ) (H : Holds S d₀ s vs) (c : Command) (ok : T (inRanges (S .p) K c)) (Q : Passed u (cost S c) (s .spent)) where
     abbrev values : List ℕ
     values = plainly (S .p) (secrets S input) (s .spent .counts .inputs) c vs
 
@@ -115,31 +115,31 @@ module _ {S : Setting} {K : ℕ} {u : Supply} {input : List Row} {d₀ : Deal} (
     abbrev tree-worked : Worked (List Row)
     tree-worked = byRows S (rowCommand S input (s .spent .counts .inputs) c (s .registers) done) (s .deal)
 
-    command-ran : Ran S Left (C .numbers ++ []) (cost (S .l) c .counts .triples + 0) (reveals c vs ++ []) (s .deal) tree-worked
+    command-ran : Ran S Left (C .numbers ++ []) (cost S c .counts .triples + 0) (reveals c vs ++ []) (s .deal) tree-worked
     command-ran =
         ran S (whole-field (G .field)) (G .parties) (C .determined (s .registers) (H .shareds) done (λ w W. d-done W))
         (masks-left H) (rw length-append (omega (arith, C .masks, Q .masks, masks-count H))) (triples-left H) (omega (arith, Q .triples, triples-count H))
 
     -- the same, with what the command costs
-    masks-are : length (C .numbers ++ []) ≡ cost (S .l) c .counts .masks
+    masks-are : length (C .numbers ++ []) ≡ cost S c .counts .masks
     masks-are = rw length-append (omega (arith, C .masks))
 
-    values-are : length (reveals c vs ++ []) ≡ cost (S .l) c .counts .revealed
+    values-are : length (reveals c vs ++ []) ≡ cost S c .counts .revealed
     values-are = rw length-append (omega (arith, C .values))
 
-    triples-are : cost (S .l) c .counts .triples + 0 ≡ cost (S .l) c .counts .triples
+    triples-are : cost S c .counts .triples + 0 ≡ cost S c .counts .triples
     triples-are = omega arith
 
     registers-64 : length (tree-worked .left) ≡ 64
     registers-64 = command-ran .left .1 .many ∙ each-length (H .shareds) ∙ H .values-64
 
-    still-unset : (r : ℕ) → getD (pay (cost (S .l) c) (s .spent) .marks) r false ≡ false → getD (tree-worked .left) r noRow ≡ noRow
+    still-unset : (r : ℕ) → getD (pay (cost S c) (s .spent) .marks) r false ≡ false → getD (tree-worked .left) r noRow ≡ noRow
     unfolding pay
     still-unset r e = go (decLt r 64)
       where
         go : Dec (r < 64) → getD (tree-worked .left) r noRow ≡ noRow
         go (yes l) =
-            let m = unmarked (s .spent .marks) (target c) r (rw (H .marks-64) l) (rw (agrees (S .l) c .writes) at e) in
+            let m = unmarked (s .spent .marks) (target c) r (rw (H .marks-64) l) (rw (agrees S c .writes) at e) in
             command-ran .left .1 .others r (m .0) ∙ H .unset r (m .1)
         go (no l) = List·getD-eq-default (tree-worked .left) noRow (omega (arith, registers-64))
 
@@ -150,12 +150,12 @@ module _ {S : Setting} {K : ℕ} {u : Supply} {input : List Row} {d₀ : Deal} (
         record {
           holds =
               record {
-                marks-64 = length-marked (s .spent .marks) (cost (S .l) c .writes) ∙ H .marks-64;
+                marks-64 = length-marked (s .spent .marks) (cost S c .writes) ∙ H .marks-64;
                 values-64 = sym (each-length (R .left .0)) ∙ registers-64;
                 shareds = R .left .0;
                 unset = still-unset;
                 used = rw (masks-are, triples-are) at (used-then (H .used) (R .used));
-                opens = rw length-append (omega (arith, H .opens, R .opened-many, masks-are, values-are, openings-are (S .l) c));
+                opens = rw length-append (omega (arith, H .opens, R .opened-many, masks-are, values-are, openings-are S c));
                 rows = all-append (H .rows) (R .opened);
                 shows = rw (length-append, R .shown) (omega (arith, H .shows, values-are));
               };

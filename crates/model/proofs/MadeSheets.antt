@@ -124,6 +124,6 @@ module _ {h : Header} {script : List ℕ} {input : List Row} {xs : List Line} {e
       rw (not-refused, script-read, says .header-is, says .input-is, says .deal-is)
 
   pub made-run : (a b : List ℕ) → run (sheetOf h script input d) a b
-      ≡ outcome (h .n) a b (runLines (settingOf h) (supplyOf h (length a) (length b)) input end xs (start d))
+      ≡ outcome (settingOf h) a b (runLines (settingOf h) (supplyOf h (length a) (length b)) input end xs (start d))
   unfolding run
   made-run a b = rw (says .header-is, made-stop (length a) (length b))

@@ -4,6 +4,7 @@ use mathlib.Core.Path.{_≡_, refl}
 use mathlib.Core.List.{[], _∷_, List·Memᴰ as In, List·Memᴰ·head as here}
 use Prim.Native.Nat.{ℕ, _<_}
 use lib.Dec.{T}
+use Rattle.model.specs.Deal.{Setting}
 use Rattle.model.specs.Script.{Command, LOAD, CONST, ADD, SUB, SCALE, MUL, MOD, TRUNC, LTZ, OVER, BLOCKS, REVEAL, BITLT, ranges, inRanges, outputs}
 use Rattle.model.specs.Costs.{Cost, costBy, cost}
 use Rattle.model.specs.Results.{target}
@@ -15,31 +16,31 @@ pub data Shows (c : Cost) : Type 0 where
   shows : (a : ℕ) → c .reads ≡ a ∷ [] → c .counts .revealed ≡ 1 → Shows c
 
 -- its cost writes its target, which is one of the 64 registers
-pub record Agrees (l : ℕ) (c : Command) : Type 0 where
-  pub writes : cost l c .writes ≡ target c
+pub record Agrees (S : Setting) (c : Command) : Type 0 where
+  pub writes : cost S c .writes ≡ target c
   pub low : (p K : ℕ) → T (inRanges p K c) → (r : ℕ) → In r (target c) → r < 64
-  pub shown : Shows (cost l c)
+  pub shown : Shows (cost S c)
 
 -- a command that leaves something in d, which is in range
-leaving : {l d : ℕ} (c : Command) → ((p K : ℕ) → AllSay (ranges p K c) → d < 64) → target c ≡ d ∷ [] → cost l c .writes ≡ d ∷ []
-    → cost l c .counts .revealed ≡ 0 → Agrees l c
+leaving : {S : Setting} {d : ℕ} (c : Command) → ((p K : ℕ) → AllSay (ranges p K c) → d < 64) → target c ≡ d ∷ [] → cost S c .writes ≡ d ∷ []
+    → cost S c .counts .revealed ≡ 0 → Agrees S c
 leaving c d-in t e f = record { writes = rw (e, t); low = λ p K ok r i. one r (d-in p K (operands p K c ok)) (rw t at i); shown = hides f }
   where
     one : {d : ℕ} (r : ℕ) → d < 64 → In r (d ∷ []) → r < 64
     one r h (here e) = rw e h
 
-pub agrees : (l : ℕ) (c : Command) → Agrees l c
+pub agrees : (S : Setting) (c : Command) → Agrees S c
 unfolding costBy outputs
-agrees l (LOAD d) = leaving (LOAD d) (λ p K h. h .0) refl refl refl
-agrees l (CONST d v) = leaving (CONST d v) (λ p K h. h .0) refl refl refl
-agrees l (ADD d a b) = leaving (ADD d a b) (λ p K h. h .0) refl refl refl
-agrees l (SUB d a b) = leaving (SUB d a b) (λ p K h. h .0) refl refl refl
-agrees l (SCALE d a v) = leaving (SCALE d a v) (λ p K h. h .0) refl refl refl
-agrees l (MUL d a b) = leaving (MUL d a b) (λ p K h. h .0) refl refl refl
-agrees l (MOD d a k m) = leaving (MOD d a k m) (λ p K h. h .0) refl refl refl
-agrees l (TRUNC d a k m) = leaving (TRUNC d a k m) (λ p K h. h .0) refl refl refl
-agrees l (LTZ d a k) = leaving (LTZ d a k) (λ p K h. h .0) refl refl refl
-agrees l (OVER d a k v) = leaving (OVER d a k v) (λ p K h. h .0) refl refl refl
-agrees l (BLOCKS d a k m) = leaving (BLOCKS d a k m) (λ p K h. h .0) refl refl refl
-agrees l (REVEAL a) = record { writes = refl; low = λ p K ok r. elim [ ]; shown = shows a refl refl }
-agrees l (BITLT d b w v) = leaving (BITLT d b w v) (λ p K h. h .0) refl refl refl
+agrees S (LOAD d) = leaving (LOAD d) (λ p K h. h .0) refl refl refl
+agrees S (CONST d v) = leaving (CONST d v) (λ p K h. h .0) refl refl refl
+agrees S (ADD d a b) = leaving (ADD d a b) (λ p K h. h .0) refl refl refl
+agrees S (SUB d a b) = leaving (SUB d a b) (λ p K h. h .0) refl refl refl
+agrees S (SCALE d a v) = leaving (SCALE d a v) (λ p K h. h .0) refl refl refl
+agrees S (MUL d a b) = leaving (MUL d a b) (λ p K h. h .0) refl refl refl
+agrees S (MOD d a k m) = leaving (MOD d a k m) (λ p K h. h .0) refl refl refl
+agrees S (TRUNC d a k m) = leaving (TRUNC d a k m) (λ p K h. h .0) refl refl refl
+agrees S (LTZ d a k) = leaving (LTZ d a k) (λ p K h. h .0) refl refl refl
+agrees S (OVER d a k v) = leaving (OVER d a k v) (λ p K h. h .0) refl refl refl
+agrees S (BLOCKS d a k m) = leaving (BLOCKS d a k m) (λ p K h. h .0) refl refl refl
+agrees S (REVEAL a) = record { writes = refl; low = λ p K ok r. elim [ ]; shown = shows a refl refl }
+agrees S (BITLT d b w v) = leaving (BITLT d b w v) (λ p K h. h .0) refl refl refl

@@ -37,7 +37,7 @@ equals P e f x = rw (e, f) x
 marks-are : (S : Setting) (input : List Row) (c : Command) (s : State) (r : ℕ)
     → getD (finish S input c s .spent .marks) r false ≡ getD (marked (s .spent .marks) (target c)) r false
 unfolding finish pay
-marks-are S input c s r = ap (λ (ds : List ℕ). getD (marked (s .spent .marks) ds) r false) (agrees (S .l) c .writes)
+marks-are S input c s r = ap (λ (ds : List ℕ). getD (marked (s .spent .marks) ds) r false) (agrees S c .writes)
 
 module _ {S : Setting} {K : ℕ} {u : Supply} {input : List Row} {d₀ : Deal} (G : Given S K u input d₀) (s : State) (vs : List ℕ) (H : Holds S d₀ s vs) where
   -- the row and the secret of the register that was written
@@ -56,16 +56,16 @@ module _ {S : Setting} {K : ℕ} {u : Supply} {input : List Row} {d₀ : Deal} (
   values-read b (suc w) = ap₂ _∷_ (read-is b) (values-read (suc b) w)
 
   -- of a command that writes d
-  left : (c : Command) (ok : T (inRanges (S .p) K c)) (Q : Passed u (cost (S .l) c) (s .spent)) {d z : ℕ} → target c ≡ d ∷ []
+  left : (c : Command) (ok : T (inRanges (S .p) K c)) (Q : Passed u (cost S c) (s .spent)) {d z : ℕ} → target c ≡ d ∷ []
       → plainly (S .p) (secrets S input) (s .spent .counts .inputs) c vs ≡ set vs d z → secretIn S (finish S input c s) d ≡ z
   left c ok Q {d} {z} q e =
-      let h = agrees (S .l) c .low (S .p) K ok d (rw q (here refl)) in
+      let h = agrees S c .low (S .p) K ok d (rw q (here refl)) in
       shareds-at (none-shared G) (finished G s vs H c ok Q .holds .shareds) d .is ∙ rw e (getD-set-same vs d z 0 (omega (arith, h, H .values-64)))
 
   E : Exact (S .p) K
   E = field-exact (G .field)
 
-  leaves : (c : Command) → T (inRanges (S .p) K c) → Passed u (cost (S .l) c) (s .spent) → Leaves S input c s (finish S input c s)
+  leaves : (c : Command) → T (inRanges (S .p) K c) → Passed u (cost S c) (s .spent) → Leaves S input c s (finish S input c s)
   unfolding finish perform command byRows plainly costBy outputs
   leaves (LOAD d) ok Q = (omega (arith, Q .inputs, G .inputs-many), row-left d _ (operands (S .p) K (LOAD d) ok .0))
   leaves (CONST d v) ok Q =
@@ -108,12 +108,12 @@ module _ {S : Setting} {K : ℕ} {u : Supply} {input : List Row} {d₀ : Deal} (
       (E .compares v (valuesFrom vs b w) (rw (length-values vs) (omega arith)) (rw (length-values vs) (omega arith)))
 
   -- what a command does to its target and to the other registers
-  pub does : (c : Command) → T (inRanges (S .p) K c) → Passed u (cost (S .l) c) (s .spent) → Does S K input c s (finish S input c s)
+  pub does : (c : Command) → T (inRanges (S .p) K c) → Passed u (cost S c) (s .spent) → Does S K input c s (finish S input c s)
   does c ok Q =
       record {
         in-range = ok;
         leaves = leaves c ok Q;
         below = λ r. secret-lt (G .field .modulus-is) (G .parties) _;
-        sets = λ r i. marks-are S input c s r ∙ marked-set (s .spent .marks) (target c) r i (omega (arith, agrees (S .l) c .low (S .p) K ok r i, H .marks-64));
+        sets = λ r i. marks-are S input c s r ∙ marked-set (s .spent .marks) (target c) r i (omega (arith, agrees S c .low (S .p) K ok r i, H .marks-64));
         keeps = λ r n. (finished G s vs H c ok Q .kept r n, marks-are S input c s r ∙ marked-kept (s .spent .marks) (target c) r n);
       }

@@ -85,7 +85,7 @@ module _ (S : Setting) where
 
   -- A command on registers that are the same where it reads.
   pub same-command : {A B : Type 0} {R : Tree Row A → Tree Row B → Type 0} (input : List Row) (j : ℕ) (c : Command) (g g′ : List Row)
-      (go : List Row → Tree Row A) (go′ : List Row → Tree Row B) → ((r : ℕ) → In r (cost (S .l) c .reads) → getD g r noRow ≡ getD g′ r noRow)
+      (go : List Row → Tree Row A) (go′ : List Row → Tree Row B) → ((r : ℕ) → In r (cost S c .reads) → getD g r noRow ≡ getD g′ r noRow)
       → PairedAfter _≡_ R (Wrote _≡_ g g′ (target c)) go go′ → (d : Deal) → Reached R (rowCommand S input j c g go) (rowCommand S input j c g′ go′) d
   same-command input j c g g′ go go′ reads h =
       reached

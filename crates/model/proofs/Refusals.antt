@@ -14,7 +14,7 @@ use Rattle.model.specs.Steps.{Setting, Row}
 use Rattle.model.specs.Script.{Line, Script, accepted, refused, scriptOf}
 use Rattle.model.specs.Refusing.{given}
 use Rattle.model.specs.Costs.{Cost, cost}
-use Rattle.model.specs.Sheet.{headerOf, headerTests, limitTests, lengthTests, rowTests, sheetTests, sheetNumber}
+use Rattle.model.specs.Sheet.{headerOf, headerTests, limitTests, lengthTests, rowTests, sheetTests, sheetNumber, settingOf}
 use Rattle.model.specs.Run.{Spent, State, Supply, Stop, check, finish, runLines, nothingSpent, start, outcome, refusedInput, written, runScript, sheetScript, stopOf, run}
 use Rattle.model.specs.Exactness.{Accepted}
 use Rattle.model.specs.Refusals.{isRun, From, Numbered, Numbers, Untouched, NothingRun}
@@ -57,7 +57,7 @@ lines : (S : Setting) (u : Supply) (input : List Row) (end : ℕ) (xs : List Lin
 lines S u input end [] s = rw (run-end S u input end s) (λ k. absurd (k refl))
 lines S u input end (x ∷ xs) s =
     rw (run-line S u input end x xs s)
-    (either OfState (check u (cost (S .l) (x .command)) (s .spent)) _ _ (λ _. lines S u input end xs (finish S input (x .command) s)) (checked u _ _))
+    (either OfState (check u (cost S (x .command)) (s .spent)) _ _ (λ _. lines S u input end xs (finish S input (x .command) s)) (checked u _ _))
 
 -- How a sheet's stop comes about.
 data Way (s : List ℕ) (x : Stop) : Type 0 where
@@ -175,9 +175,9 @@ numbers =
     }
 
 -- what a refused input leaves
-kept : (n : ℕ) (log revealed : List ℕ) (number place : ℕ) → Untouched log revealed (outcome n log revealed (refusedInput number place))
+kept : (S : Setting) (log revealed : List ℕ) (number place : ℕ) → Untouched log revealed (outcome S log revealed (refusedInput number place))
 unfolding outcome written start nothingSpent onto
-kept n log revealed number place =
+kept S log revealed number place =
     record {
       log-kept = refl;
       revealed-kept = refl;
@@ -186,11 +186,11 @@ kept n log revealed number place =
       counts = refl;
     }
 
-untouched : (n : ℕ) (log revealed s : List ℕ) (x : Stop) → (Accepted s → ⊥) → Way s x → Untouched log revealed (outcome n log revealed x)
-untouched n log revealed s x fails (by-sheet k e) = rw e (kept n log revealed _ _)
-untouched n log revealed s x fails (by-script z q e) = rw e (kept n log revealed _ _)
-untouched n log revealed s x fails (by-run a h) = absurd (fails a)
+untouched : (S : Setting) (log revealed s : List ℕ) (x : Stop) → (Accepted s → ⊥) → Way s x → Untouched log revealed (outcome S log revealed x)
+untouched S log revealed s x fails (by-sheet k e) = rw e (kept S log revealed _ _)
+untouched S log revealed s x fails (by-script z q e) = rw e (kept S log revealed _ _)
+untouched S log revealed s x fails (by-run a h) = absurd (fails a)
 
 pub nothing-run : NothingRun
 unfolding run
-nothing-run s log revealed fails = untouched (headerOf s .n) log revealed s _ fails (way s (length log) (length revealed))
+nothing-run s log revealed fails = untouched (settingOf (headerOf s)) log revealed s _ fails (way s (length log) (length revealed))

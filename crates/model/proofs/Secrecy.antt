@@ -99,9 +99,9 @@ module _ (s : List ℕ) (xs : List Line) (end : ℕ) (number : sheetNumber s ≡
   own-stop log shown = rw (number, script)
 
 -- stops that a set cannot tell apart leave outcomes that it cannot tell apart
-same-outcome : (set : List ℕ) (n : ℕ) (a b : List ℕ) {x y : Stop} → SameStop set x y → SameTo set (outcome n a b x) (outcome n a b y)
+same-outcome : (set : List ℕ) (S : Setting) (a b : List ℕ) {x y : Stop} → SameStop set x y → SameTo set (outcome S a b x) (outcome S a b y)
 unfolding outcome
-same-outcome set n a b {x} {y} Q =
+same-outcome set S a b {x} {y} Q =
     record {
       log = rw (Q .opened);
       revealed = rw (Q .shown);
@@ -127,7 +127,7 @@ module _ (h : Header) (script : List ℕ) (xs : List Line) (end log shown : ℕ)
       → SameTo set (run (sheetOf h script input q) a b) (run (sheetOf h script input′ (over-rows .to q)) a b)
   runs-same q W a b la lb =
       rw (made-run F W a b, made-run F′ (well-formed h log shown (F .permitted .field) (over-rows .to-formed q (formed h log shown W))) a b, la, lb)
-      (same-outcome set (h .n) a b (over-rows .same q (formed h log shown W)))
+      (same-outcome set (settingOf h) a b (over-rows .same q (formed h log shown W)))
 
 -- demand 3
 pub secrecy : Secrecy

@@ -130,7 +130,7 @@ module _ (S : Setting) where
       })
 
   pub finish-put : (input : List Row) (c : Command) (r : ℕ) (s : State) (x : Step) → Puts input c r s x
-      → finish S input c s ≡ stepped (pay (cost (S .l) c) (s .spent)) r s x
+      → finish S input c s ≡ stepped (pay (cost S c) (s .spent)) r s x
   unfolding finish
   finish-put input c r s x e = rw (perform-put input c r s x e)
 
@@ -168,13 +168,13 @@ module _ (S : Setting) where
 
   pub run-line : (u : Supply) (input : List Row) (end : ℕ) (x : Line) (xs : List Line) (s : State)
       → runLines S u input end (x ∷ xs) s
-      ≡ (let number = check u (cost (S .l) (x .command)) (s .spent) in
+      ≡ (let number = check u (cost S (x .command)) (s .spent) in
       given number (runLines S u input end xs (finish S input (x .command) s)) (record { number = number; place = x .place; state = s }))
   unfolding runLines throughLines finish perform
   run-line u input end x xs s =
       let v = byRows S (rowCommand S input (s .spent .counts .inputs) (x .command) (s .registers) done) (s .deal) in
-      line-does (check u (cost (S .l) (x .command)) (s .spent)) (x .place) s _ _
-      (stop-after s (pay (cost (S .l) (x .command)) (s .spent)) v _
+      line-does (check u (cost S (x .command)) (s .spent)) (x .place) s _ _
+      (stop-after s (pay (cost S (x .command)) (s .spent)) v _
       ∙ ap (stopAt s) (sym (command-does S input (s .spent .counts .inputs) (x .command) (s .registers) _ (s .deal))))
 
 -- the closed statements of specs/Parts

@@ -3,6 +3,7 @@
 use mathlib.Core.List.{List, [], _∷_}
 use Prim.Native.Nat.{ℕ, _+_, _-_, _*_}
 use Rattle.algebra.specs.Lists.{from}
+use Rattle.model.specs.Deal.{Setting}
 use Rattle.model.specs.Counts.{Counts, noCounts}
 use Rattle.model.specs.Script.{Command, LOAD, CONST, ADD, SUB, SCALE, MUL, MOD, TRUNC, LTZ, OVER, BLOCKS, REVEAL, BITLT}
 
@@ -11,6 +12,13 @@ pub record Cost : Type 0 where
   pub reads : List ℕ
   pub writes : List ℕ
   pub counts : Counts
+
+-- an input row; and a row opened whose value is revealed
+abbrev pub ofInput : Counts
+ofInput = record { inputs = 1; masks = 0; triples = 0; openings = 0; revealed = 0 }
+
+abbrev pub ofReveal : Counts
+ofReveal = record { inputs = 0; masks = 0; triples = 0; openings = 1; revealed = 1 }
 
 -- so many triples, two openings each; and a mask before them, with one opening
 abbrev pub ofTriples : ℕ → Counts
@@ -33,7 +41,7 @@ masking d a n = record { reads = a ∷ []; writes = d ∷ []; counts = ofMask n 
 -- MOD takes for m.
 unfoldable pub costBy : (ℕ → ℕ) → Command → Cost
 -- "Inputs counts the finished LOADs"
-costBy triples (LOAD d) = record { reads = []; writes = d ∷ []; counts = record { inputs = 1; masks = 0; triples = 0; openings = 0; revealed = 0 } }
+costBy triples (LOAD d) = record { reads = []; writes = d ∷ []; counts = ofInput }
 -- nothing is spent
 costBy triples (CONST d v) = free [] (d ∷ [])
 costBy triples (ADD d a b) = free (a ∷ b ∷ []) (d ∷ [])
@@ -50,12 +58,12 @@ costBy triples (BLOCKS d a k m) = masking d a (triples m)
 costBy triples (LTZ d a k) = masking d a (triples (k - 1))
 costBy triples (OVER d a k v) = masking d a (triples (k - 1))
 -- "REVEAL one opening, and its value goes to the revealed list."
-costBy triples (REVEAL a) = record { reads = a ∷ []; writes = []; counts = record { inputs = 0; masks = 0; triples = 0; openings = 1; revealed = 1 } }
+costBy triples (REVEAL a) = record { reads = a ∷ []; writes = []; counts = ofReveal }
 
 -- "ℓ + 2m − 2 triples"; l is the paper's ℓ
 abbrev pub modTriples : ℕ → ℕ → ℕ
 modTriples l m = l + 2 * m - 2
 
 -- what a command costs with the paper's MOD
-abbrev pub cost : ℕ → Command → Cost
-cost l c = costBy (modTriples l) c
+abbrev pub cost : Setting → Command → Cost
+cost S c = costBy (modTriples (S .l)) c

@@ -33,7 +33,7 @@ pub record Accepted (sheet : List ℕ) : Type 0 where
 pub data Passes (S : Setting) (u : Supply) (input : List Row) (d : Deal) (xs : List Line) : List Line → State → List ℕ → List ℕ → Type 0 where
   begins : Passes S u input d xs xs (start d) (replicate 64 0) []
   goes : {x : Line} {ys : List Line} {s : State} {vs ws : List ℕ} → Passes S u input d xs (x ∷ ys) s vs ws
-      → check u (cost (S .l) (x .command)) (s .spent) ≡ 0
+      → check u (cost S (x .command)) (s .spent) ≡ 0
       → Passes S u input d xs ys (finish S input (x .command) s) (plainly (S .p) (secrets S input) (s .spent .counts .inputs) (x .command) vs)
       (ws ++ reveals (x .command) vs)
 
@@ -51,33 +51,33 @@ pub record Right (S : Setting) (s : State) (vs ws : List ℕ) : Type 0 where
   pub shown : s .shown ≡ ws
 
 -- "Inputs counts the finished LOADs": a LOAD costs an input, and no other command does
-unfoldable pub loads : ℕ → List Line → ℕ
-loads l [] = 0
-loads l (x ∷ xs) = cost l (x .command) .counts .inputs + loads l xs
+unfoldable pub loads : Setting → List Line → ℕ
+loads S [] = 0
+loads S (x ∷ xs) = cost S (x .command) .counts .inputs + loads S xs
 
 -- the sum of what finished commands spend
-unfoldable pub sumOf : ℕ → List Line → Counts
-sumOf l [] = noCounts
-sumOf l (x ∷ xs) = added (cost l (x .command) .counts) (sumOf l xs)
+unfoldable pub sumOf : Setting → List Line → Counts
+sumOf S [] = noCounts
+sumOf S (x ∷ xs) = added (cost S (x .command) .counts) (sumOf S xs)
 
 -- "Deal spent and openings made equal the paper's counts": the commands finished so far, and that the counts are the sums of what they spend.
 -- "A deal item is never used again": so much is gone from the front of the deal. And the record has n numbers for each opening.
 pub record Counted (S : Setting) (d : Deal) (xs ys : List Line) (s : State) : Type 0 where
   pub done : List Line
   pub split : xs ≡ done ++ ys
-  pub counts : s .spent .counts ≡ sumOf (S .l) done
-  pub inputs : s .spent .counts .inputs ≡ loads (S .l) done
+  pub counts : s .spent .counts ≡ sumOf S done
+  pub inputs : s .spent .counts .inputs ≡ loads S done
   pub balance : s .spent .counts .openings ≡ s .spent .counts .masks + 2 * s .spent .counts .triples + s .spent .counts .revealed
   pub masks-left : s .deal .masks ≡ drop (s .spent .counts .masks) (d .masks)
   pub triples-left : s .deal .triples ≡ drop (s .spent .counts .triples) (d .triples)
   pub opened : length (s .opened) ≡ s .spent .counts .openings
-  pub numbers : length (written (S .n) (s .opened)) ≡ S .n * s .spent .counts .openings
+  pub numbers : length (written S (s .opened)) ≡ S .n * s .spent .counts .openings
   pub shown : length (s .shown) ≡ s .spent .counts .revealed
 
 -- How a run stops: at a line whose command the checks refuse, "and its offset is the place. Otherwise the answer is 0 at END's offset."
 pub data Stops (S : Setting) (u : Supply) (end : ℕ) (x : Stop) : List Line → Type 0 where
   at-end : x .number ≡ 0 → x .place ≡ end → Stops S u end x []
-  at-line : {y : Line} {ys : List Line} → x .number ≡ check u (cost (S .l) (y .command)) (x .state .spent) → (x .number ≡ 0 → ⊥)
+  at-line : {y : Line} {ys : List Line} → x .number ≡ check u (cost S (y .command)) (x .state .spent) → (x .number ≡ 0 → ⊥)
       → x .place ≡ y .place → Stops S u end x (y ∷ ys)
 
 -- "a refused one ends the run": the stop's state is one that the run passes through, and the lines left there say how it stops
@@ -92,7 +92,7 @@ pub record Stopped (S : Setting) (u : Supply) (input : List Row) (d : Deal) (xs 
 pub record Exactly (S : Setting) (K : ℕ) (u : Supply) (input : List Row) (d : Deal) (xs : List Line) (end : ℕ) (x : Stop) : Type 0 where
   -- the next command that the checks let through leaves the exact result, and every other register as it was
   pub does : (y : Line) (ys : List Line) (s : State) (vs ws : List ℕ) → Passes S u input d xs (y ∷ ys) s vs ws
-      → check u (cost (S .l) (y .command)) (s .spent) ≡ 0 → Does S K input (y .command) s (finish S input (y .command) s)
+      → check u (cost S (y .command)) (s .spent) ≡ 0 → Does S K input (y .command) s (finish S input (y .command) s)
   pub right : (ys : List Line) (s : State) (vs ws : List ℕ) → Passes S u input d xs ys s vs ws → Right S s vs ws
   pub counted : (ys : List Line) (s : State) (vs ws : List ℕ) → Passes S u input d xs ys s vs ws → Counted S d xs ys s
   -- the run's stop is one of these states

@@ -110,5 +110,5 @@ pub record RunByCommands : Type 0 where
       → runLines S u input end [] s ≡ record { number = 0; place = end; state = s }
   pub a-line : (S : Setting) (u : Supply) (input : List Row) (end : ℕ) (x : Line) (xs : List Line) (s : State)
       → runLines S u input end (x ∷ xs) s
-      ≡ (let number = check u (cost (S .l) (x .command)) (s .spent) in
+      ≡ (let number = check u (cost S (x .command)) (s .spent) in
       given number (runLines S u input end xs (finish S input (x .command) s)) (record { number = number; place = x .place; state = s }))

@@ -25,5 +25,5 @@ pub record SameWork (c : Command) (w w′ : Worked (List Row)) : Type 0 where
 abbrev pub ReadsOnly : Type 0
 ReadsOnly =
     (S : Setting) (input : List Row) (j : ℕ) (c : Command) (g g′ : List Row) (d : Deal)
-    → ((r : ℕ) → In r (cost (S .l) c .reads) → getD g r noRow ≡ getD g′ r noRow)
+    → ((r : ℕ) → In r (cost S c .reads) → getD g r noRow ≡ getD g′ r noRow)
     → SameWork c (byRows S (rowCommand S input j c g done) d) (byRows S (rowCommand S input j c g′ done) d)

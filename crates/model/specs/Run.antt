@@ -56,7 +56,7 @@ perform S input c s =
 unfoldable pub finish : Setting → List Row → Command → State → State
 finish S input c s =
     let r = perform S input c s in
-    record { spent = pay (cost (S .l) c) (s .spent); registers = r .registers; deal = r .deal; opened = r .opened; shown = r .shown }
+    record { spent = pay (cost S c) (s .spent); registers = r .registers; deal = r .deal; opened = r .opened; shown = r .shown }
 
 -- How a run stops: number, place and the state that is left. The place, the paper's term, is an offset in the script, or 0.
 pub record Stop : Type 0 where
@@ -90,8 +90,8 @@ pub record Outcome : Type 0 where
   pub revealed : List ℕ
 
 -- what a stop leaves in the buffers: "past what was written they are unchanged"
-unfoldable pub outcome : ℕ → List ℕ → List ℕ → Stop → Outcome
-outcome n log revealed x =
+unfoldable pub outcome : Setting → List ℕ → List ℕ → Stop → Outcome
+outcome S log revealed x =
     let s = x .state in
     record {
       number = x .number;
@@ -99,7 +99,7 @@ outcome n log revealed x =
       counts = s .spent .counts;
       registers = s .registers;
       marks = s .spent .marks;
-      log = Lists.onto (written n (s .opened)) log;
+      log = Lists.onto (written S (s .opened)) log;
       revealed = Lists.onto (s .shown) revealed;
     }
 
@@ -129,4 +129,4 @@ stopOf s log shown = given (sheetNumber s) (runScript (headerOf s) s log shown (
 -- when refused." Demand 1: "A bad sheet or a spent deal gets its number from document 01, called the paper here, and nothing past the last
 -- finished command is touched."
 unfoldable pub run : List ℕ → List ℕ → List ℕ → Outcome
-run s log revealed = outcome (headerOf s .n) log revealed (stopOf s (length log) (length revealed))
+run s log revealed = outcome (settingOf (headerOf s)) log revealed (stopOf s (length log) (length revealed))

@@ -32,11 +32,6 @@ lessTriple d = record { masks = d .masks; triples = others (d .triples) }
 abbrev pub lessMask : Deal → Deal
 lessMask d = record { masks = others (d .masks); triples = d .triples }
 
--- "Opening: the n shares go to the record, party 1 first": the record's numbers, opening by opening
-unfoldable pub written : ℕ → List Row → List ℕ
-written n [] = []
-written n (x ∷ xs) = take n x ++ written n xs
-
 module _ (S : Setting) where
   -- Rows are worked column by column: sum, difference, multiple by a public value, a public value on every share.
   unfoldable pub plus : Row → Row → Row
@@ -58,6 +53,11 @@ module _ (S : Setting) where
   -- that are opened; `written` has their shares, and `outcome` in Run.antt puts them in the record.
   unfoldable pub value : Row → ℕ
   value x = secret (S .p) (S .t) x
+
+  -- the record's numbers, opening by opening
+  unfoldable pub written : List Row → List ℕ
+  written [] = []
+  written (x ∷ xs) = take (S .n) x ++ written xs
 
   -- Where the deal has no triple or mask, which the checks shut out, one of zeros or of no bits is taken.
   abbrev pub noTriple : Triple

@@ -10,6 +10,7 @@ use lib.ListN.{length, drop}
 use Rattle.algebra.specs.Lists.{ontoAt}
 use Rattle.algebra.proofs.Lists.{onto-at-none, onto-at-then}
 use Rattle.model.specs.Bytes.{sevens}
+use Rattle.model.specs.Deal as Paper
 use Rattle.model.specs.Sheet.{triplesFrom}
 use Rattle.model.specs.Steps.{Row, Deal, byRows, rowOps, written, Step, product, comparison}
 use Rattle.model.specs.Trees.{Tree, done, multiply}
@@ -34,9 +35,9 @@ triples-past s n i (suc k) c =
     rw suc-add (triples-past s n (i + 4 * n * 3) k c ∙ rw e)
 
 -- rows written behind others
-pub log-then : (n i : ℕ) (xs ys : List Row) (log : List ℕ) {j : ℕ} {log′ log″ : List ℕ} → log′ ≡ ontoAt i (written n xs) log → length (written n xs) ≡ j
-    → log″ ≡ ontoAt (i + j) (written n ys) log′ → log″ ≡ ontoAt i (written n (xs ++ ys)) log
-log-then n i xs ys log e l f = f ∙ rw (e, ← l, onto-at-then i (written n xs) (written n ys) log, written-append)
+pub log-then : (S : Paper.Setting) (i : ℕ) (xs ys : List Row) (log : List ℕ) {j : ℕ} {log′ log″ : List ℕ} → log′ ≡ ontoAt i (written S xs) log → length (written S xs) ≡ j
+    → log″ ≡ ontoAt (i + j) (written S ys) log′ → log″ ≡ ontoAt i (written S (xs ++ ys)) log
+log-then S i xs ys log e l f = f ∙ rw (e, ← l, onto-at-then i (written S xs) (written S ys) log, written-append)
 
 -- the first j of j + k triples, and the k that a step of j triples leaves
 module _ {s : List ℕ} {S : Setting} {at : Places} {d : Deal} where
@@ -65,8 +66,8 @@ module _ {s : List ℕ} {S : Setting} (h : S .n ≤ 7) {at : Places} {k : ℕ} {
       let x = step d in
       let L = first d (dealt-fewer j k D) in
       let R = rest (x .deal) (dealt-past j k (took d) D) in
-      let size : length (written (S .n) (x .opened)) ≡ j * (2 * S .n) = length-written (S .n) h (took d .rows) ∙ rw (took d .opens) (omega arith) in
-      rw (does go d, ← L .row-is) (record { row-is = R .row-is; log-is = log-then (S .n) (at .log) (x .opened) _ log (L .log-is) size (R .log-is) })
+      let size : length (written (settingOf S) (x .opened)) ≡ j * (2 * S .n) = length-written (settingOf S) h (took d .rows) ∙ rw (took d .opens) (omega arith) in
+      rw (does go d, ← L .row-is) (record { row-is = R .row-is; log-is = log-then (settingOf S) (at .log) (x .opened) _ log (L .log-is) size (R .log-is) })
 
   pub product-then : (x y : Row) (go : Row → Tree Row Row) → Leaves s S at 1 (product (settingOf S) x y) f log log′
       → Works s S (pastTriples S at 1) k (go f) row log′ log″ → Works s S at (1 + k) (multiply x y go) row log log″

@@ -8,6 +8,7 @@ use lib.ListN.{length}
 use Rattle.algebra.specs.Lists.{none, one}
 use Rattle.model.specs.Bytes.{rowAt}
 use Rattle.model.specs.Sheet.{triplesFrom}
+use Rattle.model.specs.Deal as Paper
 use Rattle.model.specs.Steps.{Row, written, minus, nextTriple, beaver, byRows, product}
 use Rattle.model.proofs.Taking.{Seven, seven-minus}
 use Rattle.model.proofs.Written.{length-written}
@@ -18,8 +19,8 @@ use Rattle.steps.specs.Promises.{Opens, Leaves}
 use Rattle.steps.proofs.Leaving.{log-then}
 
 -- an opened row is n numbers of the record
-pub one-opened : (n : ℕ) (x : Row) → n ≤ 7 → Seven x → length (written n (x ∷ [])) ≡ n
-one-opened n x h e = length-written n h (one e none) ∙ omega arith
+pub one-opened : (S : Paper.Setting) (x : Row) → S .n ≤ 7 → Seven x → length (written S (x ∷ [])) ≡ S .n
+one-opened S x h e = length-written S h (one e none) ∙ omega arith
 
 pub product-leaves : {s : List ℕ} {S : Setting} {at : Places} (x y : Row) {a b c r : Row} {a1 b1 : ℕ} {log log′ log″ : List ℕ} → S .n ≤ 7
     → a ≡ rowAt s (S .n) (at .triple) → b ≡ rowAt s (S .n) (at .triple + 4 * S .n) → c ≡ rowAt s (S .n) (at .triple + 8 * S .n)
@@ -30,7 +31,7 @@ product-leaves {s} {S} {at} x y {a} {b} {c} {log = log} h ea eb ec A B er d D =
     rw next
     (record {
       row-is = er ∙ rw (A .value-is, B .value-is);
-      log-is = log-then (S .n) (at .log) (minus (settingOf S) x a ∷ []) (minus (settingOf S) y b ∷ []) log (A .log-is) (one-opened (S .n) _ h (seven-minus (settingOf S) h x a)) (B .log-is);
+      log-is = log-then (settingOf S) (at .log) (minus (settingOf S) x a ∷ []) (minus (settingOf S) y b ∷ []) log (A .log-is) (one-opened (settingOf S) _ h (seven-minus (settingOf S) h x a)) (B .log-is);
     })
   where
     third : (i n : ℕ) → i + 8 * n ≡ i + 4 * n * 2

@@ -64,7 +64,7 @@ module _ {s : List ℕ} {S : Setting} {at : Places} {log log′ : List ℕ} {row
       let under : o ≡ underMask (settingOf S) x (sevens (S .l) cells) = eo ∙ rw er in
       let B = R (lessMask d) (record { more = D .more; triples = D .triples }) in
       rw (e, ← under, ← O .value-is)
-      (record { row-is = B .row-is; log-is = log-then (S .n) (at .log) (o ∷ []) _ log (O .log-is) (one-opened (S .n) o h (rw eo (seven-plus (settingOf S) h x r))) (B .log-is) })
+      (record { row-is = B .row-is; log-is = log-then (settingOf S) (at .log) (o ∷ []) _ log (O .log-is) (one-opened (settingOf S) o h (rw eo (seven-plus (settingOf S) h x r))) (B .log-is) })
 
   pub remainder-leaves : (k m : ℕ) (a : Row) {x : Row} {r r′ : List Row} → x ≡ plus (settingOf S) a (constant (settingOf S) (2 ^ (k - 1))) → r ≡ r′
       → MaskedLeaves s S at r m (stepOf (settingOf S) (fromX S m x)) row log log′ → MaskedLeaves s S at r′ m (remainder (settingOf S) k m a) row log log′

@@ -17,7 +17,7 @@ use Rattle.steps.specs.declared.places.Places.{Places}
 pub record Opens (S : Setting) (at : ℕ) (x : Row) (v : ℕ) (log log′ : List ℕ) : Type 0 where
   pub value-is : v ≡ value (settingOf S) x
   pub below : v < S .p
-  pub log-is : log′ ≡ ontoAt at (written (S .n) (x ∷ [])) log
+  pub log-is : log′ ≡ ontoAt at (written (settingOf S) (x ∷ [])) log
 
 -- the deal's next k triples are those of the sheet's bytes s from their place on
 pub record Dealt (s : List ℕ) (S : Setting) (at : Places) (k : ℕ) (d : Deal) : Type 0 where
@@ -27,7 +27,7 @@ pub record Dealt (s : List ℕ) (S : Setting) (at : Places) (k : ℕ) (d : Deal)
 -- the row is the one that the step left, and the record has the shares that it opened, from their place on
 pub record Left (S : Setting) (at : Places) (x : Step) (row : Row) (log log′ : List ℕ) : Type 0 where
   pub row-is : row ≡ x .left
-  pub log-is : log′ ≡ ontoAt (at .log) (written (S .n) (x .opened)) log
+  pub log-is : log′ ≡ ontoAt (at .log) (written (settingOf S) (x .opened)) log
 
 -- so for every deal with k such triples
 abbrev pub Leaves : List ℕ → Setting → Places → ℕ → (Deal → Step) → Row → List ℕ → List ℕ → Type 0

@@ -118,7 +118,8 @@ unfolding costBy
 returns-11 c = rw (c .before .before .before .c11 .given .1) (rw (c .before .of-mask5 .ensures) at (c .on-one6 .ensures))
 
 returns-12 : tie.Need-returns-12
-returns-12 c = rw (c .before .before .c12 .given .1) (c .revealing .ensures _)
+unfolding costBy
+returns-12 c = rw (c .before .before .c12 .given .1) (c .revealing .ensures)
 
 returns-13 : tie.Need-returns-13
 unfolding costBy
