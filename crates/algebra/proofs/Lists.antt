@@ -1,6 +1,6 @@
--- Laws of `Below`, `from`, `total`, `over` and `ontoAt`.
+-- Laws of `Below`, `from`, `total`, `onto` and `ontoAt`.
 -- Assumes nothing.
-use mathlib.Core.Path.{_≡_, refl, sym, ap, _∙_}
+use mathlib.Core.Path.{_≡_, refl, sym, ap, subst, _∙_}
 use mathlib.Core.Bool.{true, false}
 use mathlib.Core.Logic.{_↔_}
 use mathlib.Core.List.{List, [], _∷_, _++_, append-assoc, append-nil, List·Memᴰ as In, List·Memᴰ·head as here, List·Memᴰ·tail as there}
@@ -100,14 +100,14 @@ unfolding total
 total-le b g [] k = zero-le
 total-le b g (x ∷ xs) k = omega (arith, k x (here refl), total-le b g xs (λ z m. k z (there m)))
 
-pub length-over : (vs xs : List ℕ) → length vs ≤ length xs → length (onto vs xs) ≡ length xs
+pub length-onto : (vs xs : List ℕ) → length vs ≤ length xs → length (onto vs xs) ≡ length xs
 unfolding onto
-length-over vs xs h = rw (length-append, length-drop) (omega arith)
+length-onto vs xs h = rw (length-append, length-drop) (omega arith)
 
 -- nothing stands behind a write as long as the list
-pub over-all : (vs xs : List ℕ) → length xs ≤ length vs → onto vs xs ≡ vs
+pub onto-all : (vs xs : List ℕ) → length xs ≤ length vs → onto vs xs ≡ vs
 unfolding onto
-over-all vs xs h = rw (drop-of-length-le xs {i = length vs} h, append-nil)
+onto-all vs xs h = rw (drop-of-length-le xs {i = length vs} h, append-nil)
 
 -- A loop that writes the first n numbers of vs over the start of xs, one law for each of its needs: after j turns l has j of them.
 pub record Writing (vs xs : List ℕ) (n j : ℕ) (l : List ℕ) : Type 0 where
@@ -136,13 +136,13 @@ writing-end {n = n} {j} W h = let e : j ≡ n = omega arith in rw e at (W .is)
 pub writing-length : {vs xs : List ℕ} {n j : ℕ} {l : List ℕ} → Writing vs xs n j l → n ≤ length vs → n ≤ length xs → length l ≡ length xs
 writing-length {vs} {xs} {n} {j} W hv hx =
     let s : length (take j vs) ≡ j = length-take-le j vs (omega arith) in
-    ap length (W .is) ∙ length-over (take j vs) xs (omega arith)
+    ap length (W .is) ∙ length-onto (take j vs) xs (omega arith)
 
 -- A callee that was lent the part of ys from a on wrote vs over it, where us stand over the start of xs: both stand over the start of xs.
-pub over-then : (xs us vs ys last : List ℕ) (a : ℕ) → ys ≡ onto us xs → length us ≡ a → last ≡ onto vs (midOf a (length ys - a) ys)
+pub onto-then : (xs us vs ys last : List ℕ) (a : ℕ) → ys ≡ onto us xs → length us ≡ a → last ≡ onto vs (midOf a (length ys - a) ys)
     → putMid a (length ys - a) ys last ≡ onto (us ++ vs) xs
 unfolding onto
-over-then xs us vs ys last a e h w =
+onto-then xs us vs ys last a e h w =
     let front : take a ys ≡ us = rw e (take-at us (drop (length us) xs) a h) in
     let back : drop a ys ≡ drop a xs = rw (e, drop-at us (drop (length us) xs) a h, h) in
     let whole : take (length ys - a) (drop a ys) ≡ drop a ys = take-all (length ys - a) (drop a ys) (rw length-drop (omega arith)) in
@@ -181,12 +181,24 @@ drop-onto-at zero i vs xs h = rw zero-add
 drop-onto-at (suc j) i vs [] h = absurd (omega arith)
 drop-onto-at (suc j) i vs (x ∷ xs) h = rw suc-add (drop-onto-at j i vs xs (omega arith))
 
+-- past what was written
+pub drop-past : (m i : ℕ) (vs xs : List ℕ) → i + length vs ≤ m → i ≤ length xs → drop m (ontoAt i vs xs) ≡ drop m xs
+unfolding ontoAt onto
+drop-past m zero vs xs h l =
+    let r = m - length vs in
+    let e : length vs + r ≡ m = omega arith in
+    subst (λ (k : ℕ). drop k (vs ++ drop (length vs) xs) ≡ drop k xs) e
+    (sym (drop-drop r (length vs) _) ∙ ap (drop r) (drop-at vs _ (length vs) refl) ∙ drop-drop r (length vs) xs)
+drop-past zero (suc i) vs xs h l = absurd (omega arith)
+drop-past (suc m) (suc i) vs [] h l = absurd (omega arith)
+drop-past (suc m) (suc i) vs (x ∷ xs) h l = drop-past m i vs xs (omega arith) (omega arith)
+
 pub length-onto-at : (i : ℕ) (vs xs : List ℕ) → i + length vs ≤ length xs → length (ontoAt i vs xs) ≡ length xs
 unfolding ontoAt
 length-onto-at i vs xs h =
     let s : length (take i xs) ≡ i = length-take-le i xs (omega arith) in
     let k : length vs ≤ length (drop i xs) = rw length-drop (omega arith) in
-    rw (length-append, s, length-over vs (drop i xs) k, length-drop) (omega arith)
+    rw (length-append, s, length-onto vs (drop i xs) k, length-drop) (omega arith)
 
 set-behind : (us xs : List ℕ) (j v : ℕ) → set (us ++ xs) (length us + j) v ≡ us ++ set xs j v
 set-behind [] xs j v = rw zero-add

@@ -26,6 +26,7 @@ fn all_set(marks: [bool; 64], b: usize, w: usize) -> bool
     true
 }
 
+// x && y as a call: it is then one value, with no branch to prove.
 fn both(x: bool, y: bool) -> bool
     ensures { λ r. ⌜ r ≡ (x && y) ⌝ }
 {

@@ -8,7 +8,7 @@ use lib.Dec.{T, eqb, eqb→eq}
 use lib.ListN.{getD}
 use Rattle.algebra.proofs.Tests.{every, every-at}
 use Rattle.model.specs.Fields.{InUse, Modulus, modulus}
-use Rattle.model.proofs.Fields.{listed, fields}
+use Rattle.model.proofs.Fields.{below-four, fields}
 
 -- the entry at place i f, field f's, is g f
 module _ (i g : ℕ → ℕ) where
@@ -20,4 +20,4 @@ module _ (i g : ℕ → ℕ) where
   entry-at l f t h = eqb→eq _ _ (every-at 4 (entryTest l) t f h)
 
 pub modulus-facts : (l : List ℕ) (f : ℕ) → T (every 4 (entryTest (λ f. 3 * f) modulus l)) → InUse f → Modulus (getD l (3 * f) 0)
-modulus-facts l f t h = rw (entry-at (λ f. 3 * f) modulus l f t (listed f h)) (fields f h .modulus-is)
+modulus-facts l f t h = rw (entry-at (λ f. 3 * f) modulus l f t (below-four f h)) (fields f h .modulus-is)

@@ -11,12 +11,10 @@ use lib.Seq.{take-all}
 use Rattle.algebra.specs.Lists.{onto}
 use Rattle.algebra.proofs.Lists.{Writing, writing-start, writing-more, writing-end, writing-length}
 use Rattle.model.specs.Bytes.{sevens}
-use Rattle.model.specs.Counts.{listed}
 use Rattle.model.specs.Run.{Outcome}
-use Rattle.costs.specs.Costing.{countsOf}
 use Rattle.machine.specs.declared.run.Answer.{Answer}
 use Rattle.machine.specs.Answers.{outcomeOf}
-use Rattle.jundrethol.specs.Lent.{lent, joined, flags, Handed}
+use Rattle.jundrethol.specs.Lent.{lent, joined, flags, Delivered, Handed}
 
 -- A loop that writes the first n numbers of vs over the start of xs, n being the smaller of their lengths, one law for each of its needs.
 pub record Lending (vs xs : List ℕ) (n j : ℕ) (l : List ℕ) : Type 0 where
@@ -73,17 +71,15 @@ flag-at (x ∷ xs) (suc i) h = flag-at xs i (omega arith)
 module _ (a : Answer) {log shown : List ℕ} {o : Outcome} {cells₀ cells marks₀ marks counts₀ counts : List ℕ} where
   pub handed : length (a .table .cells) ≡ 448
       → outcomeOf a log shown ≡ o
-      → cells ≡ lent (a .table .cells) cells₀
-      → marks ≡ lent (flags (a .table .spent .marks)) marks₀
-      → counts ≡ lent (a .place ∷ listed (countsOf (a .table .spent .counts))) counts₀
+      → Delivered a cells₀ cells marks₀ marks counts₀ counts
       → Handed o (a .number) log shown cells₀ cells marks₀ marks counts₀ counts
-  handed h e r m k =
+  handed h e L =
       subst (λ (x : Outcome). Handed x (a .number) log shown cells₀ cells marks₀ marks counts₀ counts) e
       (record {
         number = refl;
         log = refl;
         revealed = refl;
-        registers = r ∙ ap (λ xs. lent xs cells₀) (sym (joined-sevens 64 (a .table .cells) h));
-        marks = m;
-        counts = k;
+        registers = L .registers ∙ ap (λ xs. lent xs cells₀) (sym (joined-sevens 64 (a .table .cells) h));
+        marks = L .marks;
+        counts = L .counts;
       })

@@ -9,6 +9,8 @@ use Rattle.algebra.specs.Lists.{onto}
 use Rattle.model.specs.Steps.{Row}
 use Rattle.model.specs.Counts.{listed}
 use Rattle.model.specs.Run.{Outcome}
+use Rattle.costs.specs.Costing.{countsOf}
+use Rattle.machine.specs.declared.run.Answer.{Answer}
 
 -- as many of vs as the lent list xs has places for, from its start on; past them it is unchanged
 unfoldable pub lent : List ℕ → List ℕ → List ℕ
@@ -23,6 +25,12 @@ joined (x ∷ xs) = x ++ joined xs
 unfoldable pub flags : List Bool → List ℕ
 flags [] = []
 flags (x ∷ xs) = cond x 1 0 ∷ flags xs
+
+-- what an answer puts into the three lent lists, of which the first of each pair is what stood there before: registers, marks, place and counts
+pub record Lists (a : Answer) (cells₀ cells₁ marks₀ marks₁ counts₀ counts₁ : List ℕ) : Type 0 where
+  pub registers : cells₁ ≡ lent (a .table .cells) cells₀
+  pub marks : marks₁ ≡ lent (flags (a .table .spent .marks)) marks₀
+  pub counts : counts₁ ≡ lent (a .place ∷ listed (countsOf (a .table .spent .counts))) counts₀
 
 -- The outcome o as C gets it: the number; record and revealed list to their last number; and in three lent lists, of which the first of each
 -- pair is what stood there before the call, registers, marks and counts.

@@ -5,7 +5,7 @@ ghost use mathlib.Core.List.{_∷_};
 ghost use Prim.Native.Nat.{_≤_, _<_};
 ghost use Rattle.model.specs.Counts.{listed};
 ghost use Rattle.costs.specs.Costing.{countsOf};
-ghost use Rattle.jundrethol.specs.Lent.{lent, flags};
+ghost use Rattle.jundrethol.specs.Lent.{lent, flags, Delivered};
 use costs::counts::Counts;
 use machine::run::Answer;
 
@@ -67,7 +67,7 @@ pub fn put_counts(part: &mut [u64], place: usize, spent: Counts)
 
 // Registers, marks, place and counts of an answer.
 pub fn hand(answer: Answer, registers: &mut [u32], marks: &mut [u8], counts: &mut [u64])
-    ensures { λ _. ⌜ (now (registers .exit) ≡ lent (answer .table .cells) (now (registers .entry))) × (now (marks .exit) ≡ lent (flags (answer .table .spent .marks)) (now (marks .entry))) × (now (counts .exit) ≡ lent (answer .place ∷ listed (countsOf (answer .table .spent .counts))) (now (counts .entry))) ⌝ }
+    ensures { λ _. ⌜ Delivered answer (now (registers .entry)) (now (registers .exit)) (now (marks .entry)) (now (marks .exit)) (now (counts .entry)) (now (counts .exit)) ⌝ }
 {
     let cells = answer.table.cells;
     put_cells(registers, cells);

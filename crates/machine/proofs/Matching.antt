@@ -24,7 +24,7 @@ use Rattle.costs.specs.Costing.{countsOf, costOf, spentOf}
 use Rattle.steps.specs.declared.places.Places.{Places}
 use Rattle.steps.specs.declared.cut.Cut.{Cut}
 use Rattle.steps.specs.Places.{Room}
-use Rattle.steps.specs.Promises.{Leaves}
+use Rattle.steps.specs.Promises.{StepLeaves}
 use Rattle.steps.specs.Cuts.{CutRoom, CutLeaves}
 use Rattle.machine.specs.Cells.{registerIn, Stored, Revealed}
 use Rattle.machine.specs.Places.{placesOf, Reached}
@@ -67,12 +67,12 @@ module _ {s : List ℕ} {f : Frame} {k : Counts} {c : Command} {m : Lent} {S : S
 
     -- the commands that open shares and take no mask
     pub multiply-done : {d a b : ℕ} {cells log : List ℕ} → meant c′ ≡ MUL d a b
-        → Stored d (λ z. Leaves s S at 1 (product (settingOf S) (registerIn (m .cells) a) (registerIn (m .cells) b)) z (m .log) log) (m .cells) cells
+        → Stored d (λ z. StepLeaves s S at 1 (product (settingOf S) (registerIn (m .cells) a) (registerIn (m .cells) b)) z (m .log) log) (m .cells) cells
         → Performs s f k (meant c) m (lent cells log (m .shown))
     multiply-done is P = done (rw is (multiply-performs (rw is at ready) (rw (K .setting, K .places) at P)))
 
     pub compare-done : {d b w v : ℕ} {cells log : List ℕ} → meant c′ ≡ BITLT d b w v
-        → Stored d (λ z. Leaves s S at (w - 1) (comparison (settingOf S) v (sevens w (drop (7 * b) (m .cells)))) z (m .log) log) (m .cells) cells
+        → Stored d (λ z. StepLeaves s S at (w - 1) (comparison (settingOf S) v (sevens w (drop (7 * b) (m .cells)))) z (m .log) log) (m .cells) cells
         → Performs s f k (meant c) m (lent cells log (m .shown))
     compare-done is P = done (rw is (compare-performs (rw is at ready) (rw (K .setting, K .places) at P)))
 

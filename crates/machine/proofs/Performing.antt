@@ -21,7 +21,7 @@ use Rattle.sheet.specs.declared.frame.Frame.{Frame}
 use Rattle.sheet.specs.Framed.{settingFrom, settingIn, Framed}
 use Rattle.steps.specs.declared.cut.Cut.{Cut}
 use Rattle.steps.specs.declared.cut.Cut.the-variants.{Mod, Trunc, Ltz, Over, Blocks}
-use Rattle.steps.specs.Promises.{Leaves, MaskedLeaves, Left}
+use Rattle.steps.specs.Promises.{StepLeaves, MaskedLeaves, Left}
 use Rattle.steps.specs.Cuts.{widthOf, lowOf, cutStep, CutLeaves}
 use Rattle.machine.specs.Cells.{registerIn, Stored, Revealed}
 use Rattle.machine.specs.Places.{inputPlace, placesOf}
@@ -58,7 +58,7 @@ module _ (s : List ℕ) (f : Frame) (k : Counts) (c : Command) (m : Lent) (d : �
   Same step = (log₀ shown₀ : List ℕ) (x : State) → Carries (settingIn f) log₀ shown₀ m x → step (x .deal) ≡ st x
 
   performs-step : {step : Deal → Step} {cells log : List ℕ} (t : ℕ) → k .triples + t ≤ f .triples → Same step
-      → Stored d (λ z. Leaves s (settingFrom f) (placesOf f k) t step z (m .log) log) (m .cells) cells → Performs s f k c m (lent cells log (m .shown))
+      → Stored d (λ z. StepLeaves s (settingFrom f) (placesOf f k) t step z (m .log) log) (m .cells) cells → Performs s f k c m (lent cells log (m .shown))
   performs-step t enough same P = performs P (λ log₀ shown₀ x C H z L. stepped C H (same log₀ shown₀ x H) (L (x .deal) (dealt C t enough)))
 
   performs-masked : {step : Deal → Step} {cells log : List ℕ} (w : ℕ) → k .masks + 1 ≤ f .masks → k .triples + modTriples (f .l) w ≤ f .triples → Same step
@@ -117,7 +117,7 @@ module _ {s : List ℕ} {f : Frame} {k : Counts} {m : Lent} where
       (λ log₀ shown₀ x C H. rw (register-is H a (r .1 .0)))
 
   pub multiply-performs : {d a b : ℕ} {cells log : List ℕ} → Ready s f k (MUL d a b) m
-      → Stored d (λ z. Leaves s (settingFrom f) (placesOf f k) 1 (product (settingIn f) (registerIn (m .cells) a) (registerIn (m .cells) b)) z (m .log) log) (m .cells) cells
+      → Stored d (λ z. StepLeaves s (settingFrom f) (placesOf f k) 1 (product (settingIn f) (registerIn (m .cells) a) (registerIn (m .cells) b)) z (m .log) log) (m .cells) cells
       → Performs s f k (MUL d a b) m (lent cells log (m .shown))
   unfolding command costBy
   multiply-performs {d} {a} {b} R =
@@ -126,7 +126,7 @@ module _ {s : List ℕ} {f : Frame} {k : Counts} {m : Lent} where
       1 (R .triples) (λ log₀ shown₀ x H. rw (register-is H a (r .1 .0), register-is H b (r .1 .1 .0)))
 
   pub compare-performs : {d b w v : ℕ} {cells log : List ℕ} → Ready s f k (BITLT d b w v) m
-      → Stored d (λ z. Leaves s (settingFrom f) (placesOf f k) (w - 1) (comparison (settingIn f) v (sevens w (drop (7 * b) (m .cells)))) z (m .log) log) (m .cells) cells
+      → Stored d (λ z. StepLeaves s (settingFrom f) (placesOf f k) (w - 1) (comparison (settingIn f) v (sevens w (drop (7 * b) (m .cells)))) z (m .log) log) (m .cells) cells
       → Performs s f k (BITLT d b w v) m (lent cells log (m .shown))
   unfolding command costBy
   compare-performs {d} {b} {w} {v} R =

@@ -6,7 +6,7 @@ ghost use Rattle.model.specs.Bytes as Bytes;
 ghost use Rattle.model.specs.Steps as Steps;
 ghost use Rattle.sharing.specs.Settings.{settingOf, Fitting};
 ghost use Rattle.steps.specs.Places.{Room};
-ghost use Rattle.steps.specs.Promises.{Leaves};
+ghost use Rattle.steps.specs.Promises.{StepLeaves};
 ghost use Rattle.machine.specs.Cells.{registerIn, Stored, Revealed};
 use crate::table::Table;
 use crate::table::register;
@@ -29,7 +29,7 @@ fn comparison_from(
     v: u32,
 ) -> Row
     requires { ⌜ Room (now s) (now log) setting at (w - 1) × (1 ≤ w) × (w ≤ 31) × (b + w ≤ 64) × (length (now cells) ≡ 448) ⌝ }
-    ensures { λ r. ⌜ Leaves (now (s .entry)) setting at (w - 1) (Steps.comparison (settingOf setting) v (Bytes.sevens w (drop (7 * b) (now (cells .entry))))) (r .shares) (now (log .entry)) (now (log .exit)) ⌝ }
+    ensures { λ r. ⌜ StepLeaves (now (s .entry)) setting at (w - 1) (Steps.comparison (settingOf setting) v (Bytes.sevens w (drop (7 * b) (now (cells .entry))))) (r .shares) (now (log .entry)) (now (log .exit)) ⌝ }
 {
     comparison::comparison(setting, at, s, log, v, w, &cells[7 * b..])
 }
@@ -47,7 +47,7 @@ impl Table {
         b: usize,
     ) -> Table
         requires { ⌜ Room (now s) (now log) setting at 1 × (d < 64) × (a < 64) × (b < 64) ⌝ }
-        ensures { λ r. ⌜ Stored d (λ z. Leaves (now (s .entry)) setting at 1 (Steps.product (settingOf setting) (registerIn (self .cells) a) (registerIn (self .cells) b)) z (now (log .entry)) (now (log .exit))) (self .cells) (r .cells) × (r .spent ≡ self .spent) ⌝ }
+        ensures { λ r. ⌜ Stored d (λ z. StepLeaves (now (s .entry)) setting at 1 (Steps.product (settingOf setting) (registerIn (self .cells) a) (registerIn (self .cells) b)) z (now (log .entry)) (now (log .exit))) (self .cells) (r .cells) × (r .spent ≡ self .spent) ⌝ }
     {
         let left = register(&self.cells[..], a);
         let right = register(&self.cells[..], b);
@@ -68,7 +68,7 @@ impl Table {
         v: u32,
     ) -> Table
         requires { ⌜ Room (now s) (now log) setting at (w - 1) × (d < 64) × (1 ≤ w) × (w ≤ 31) × (b + w ≤ 64) ⌝ }
-        ensures { λ r. ⌜ Stored d (λ z. Leaves (now (s .entry)) setting at (w - 1) (Steps.comparison (settingOf setting) v (Bytes.sevens w (drop (7 * b) (self .cells)))) z (now (log .entry)) (now (log .exit))) (self .cells) (r .cells) × (r .spent ≡ self .spent) ⌝ }
+        ensures { λ r. ⌜ Stored d (λ z. StepLeaves (now (s .entry)) setting at (w - 1) (Steps.comparison (settingOf setting) v (Bytes.sevens w (drop (7 * b) (self .cells)))) z (now (log .entry)) (now (log .exit))) (self .cells) (r .cells) × (r .spent ≡ self .spent) ⌝ }
     {
         let row = comparison_from(setting, at, s, log, &self.cells[..], b, w, v);
         self.put(d, row)

@@ -58,7 +58,7 @@ impl Table {
         self
     }
 
-    // Where the sheet's bytes and the record go on.
+    // The next places of mask, triple and record.
     pub fn places(self, f: Frame) -> Places
         requires { ⌜ Reached f (countsOf (self .spent .counts)) ⌝ }
         ensures { λ r. ⌜ r ≡ placesOf f (countsOf (self .spent .counts)) ⌝ }

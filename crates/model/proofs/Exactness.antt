@@ -3,6 +3,7 @@
 use mathlib.Core.Path.{_≡_, refl, sym, ap, _∙_}
 use mathlib.Core.List.{List, [], _∷_, _++_, append-assoc}
 use Prim.Native.Nat.{ℕ, zero, suc, _+_, _*_}
+use native.Mathlib.Nat.{add-zero, zero-add, add-assoc}
 use native.Mathlib.Omega.{arith}
 use lib.ListN.{replicate}
 use Rattle.algebra.specs.Lists.{All, one}
@@ -15,12 +16,12 @@ use Rattle.model.specs.Sheet.{secrets}
 use Rattle.model.specs.Run.{Supply, State, check, pay, finish, nothingSpent, start, runLines, runScript, stopOf}
 use Rattle.model.specs.Plain.{plainly, reveals}
 use Rattle.model.specs.Results.{Does}
-use Rattle.model.specs.Exactness.{Passes, begins, goes, Right, loads, sumOf, Counted, at-end, at-line, Stopped, Exactness}
+use Rattle.model.specs.Exactness.{Passes, begins, goes, Right, sumOf, sums, Counted, at-end, at-line, Stopped, Exactness}
 use Rattle.model.proofs.Each.{each-length}
 use Rattle.model.proofs.Written.{length-written}
 use Rattle.model.proofs.Sharings.{length-sharing}
 use Rattle.model.proofs.StepLaws.{run-end, run-line}
-use Rattle.model.proofs.Counts.{added-none, none-added, added-assoc}
+use Rattle.model.proofs.Counts.{same-counts}
 use Rattle.model.proofs.Checks.{Passed, check-passed}
 use Rattle.model.proofs.Courses.{shareds-at}
 use Rattle.model.proofs.Held.{Holds, holds-start, Given, none-shared, finished}
@@ -34,17 +35,17 @@ all-head (one p ps) = p
 all-tail : {A : Type 0} {P : A → Type 0} {x : A} {xs : List A} → All P (x ∷ xs) → All P xs
 all-tail (one p ps) = ps
 
--- sums over one more line, and what a finished command adds
-sum-more : (S : Setting) (xs : List Line) (x : Line) → sumOf S (xs ++ (x ∷ [])) ≡ added (sumOf S xs) (cost S (x .command) .counts)
+-- sums over one more line
+sum-more : (kind : Counts → ℕ) (S : Setting) (xs : List Line) (x : Line)
+    → sumOf kind S (xs ++ (x ∷ [])) ≡ sumOf kind S xs + kind (cost S (x .command) .counts)
 unfolding sumOf
-sum-more S [] x = added-none _ ∙ sym (none-added _)
-sum-more S (y ∷ ys) x = ap (added (cost S (y .command) .counts)) (sum-more S ys x) ∙ sym (added-assoc _ _ _)
+sum-more kind S [] x = add-zero _ ∙ sym (zero-add _)
+sum-more kind S (y ∷ ys) x = rw (sum-more kind S ys x) (sym (add-assoc _ _ _))
 
--- of them, the inputs
-loads-are : (S : Setting) (xs : List Line) → sumOf S xs .inputs ≡ loads S xs
-unfolding sumOf loads
-loads-are S [] = refl
-loads-are S (x ∷ xs) = ap (λ (k : ℕ). cost S (x .command) .counts .inputs + k) (loads-are S xs)
+sums-more : (S : Setting) (xs : List Line) (x : Line) → sums S (xs ++ (x ∷ [])) ≡ added (sums S xs) (cost S (x .command) .counts)
+sums-more S xs x =
+    same-counts (sum-more (λ k. k .inputs) S xs x) (sum-more (λ k. k .masks) S xs x) (sum-more (λ k. k .triples) S xs x)
+    (sum-more (λ k. k .openings) S xs x) (sum-more (λ k. k .revealed) S xs x)
 
 module _ {S : Setting} {K : ℕ} {u : Supply} {input : List Row} {d : Deal} (G : Given S K u input d) (xs : List Line) (ok : All (InRange (S .p) K) xs) where
   -- what is known after each finished command
@@ -55,7 +56,7 @@ module _ {S : Setting} {K : ℕ} {u : Supply} {input : List Row} {d : Deal} (G :
     pub ranges : All (InRange (S .p) K) ys
     pub done : List Line
     pub split : xs ≡ done ++ ys
-    pub counts : s .spent .counts ≡ sumOf S done
+    pub counts : s .spent .counts ≡ sums S done
 
   known-start : Known xs (start d) (replicate 64 0) []
   unfolding start nothingSpent sumOf
@@ -85,7 +86,7 @@ module _ {S : Setting} {K : ℕ} {u : Supply} {input : List Row} {d : Deal} (G :
         ranges = all-tail (q .ranges);
         done = q .done ++ (x ∷ []);
         split = q .split ∙ rw append-assoc;
-        counts = ap (λ (x′ : Counts). added x′ (cost S (x .command) .counts)) (q .counts) ∙ sym (sum-more S (q .done) x);
+        counts = ap (λ (x′ : Counts). added x′ (cost S (x .command) .counts)) (q .counts) ∙ sym (sums-more S (q .done) x);
       }
 
   known : {ys : List Line} {s : State} {vs ws : List ℕ} → Passes S u input d xs ys s vs ws → Known ys s vs ws
@@ -121,7 +122,6 @@ module _ {S : Setting} {K : ℕ} {u : Supply} {input : List Row} {d : Deal} (G :
         done = q .done;
         split = q .split;
         counts = q .counts;
-        inputs = ap (λ (k : Counts). k .inputs) (q .counts) ∙ loads-are S (q .done);
         balance = q .balance;
         masks-left = q .holds .used .masks;
         triples-left = q .holds .used .triples;

@@ -26,14 +26,14 @@ pub in-use : (test : ℕ → Bool) → T (all test fieldsInUse) → (f : ℕ) �
 unfolding inUse
 in-use test t f h = at-each test fieldsInUse t f h
 
--- the table has them
-pub listed : (f : ℕ) → InUse f → f < 4
+-- the table has four
+pub below-four : (f : ℕ) → InUse f → f < 4
 unfolding all
-listed f h = ltb→lt f 4 (in-use (λ g. ltb g 4) tt f h)
+below-four f h = ltb→lt f 4 (in-use (λ g. ltb g 4) tt f h)
 
 pub fields-tested : FieldsTested
 unfolding inUse
-fields-tested f = (listed f, every-at 4 inUse tt f)
+fields-tested f = (below-four f, every-at 4 inUse tt f)
 
 -- the facts of one field, each as a test
 unit-test : ℕ → ℕ → Bool

@@ -19,7 +19,7 @@ use Rattle.model.specs.Sheet.{Header, largestIn, settingOf, impliedLengt
 use Rattle.model.specs.Making.{SheetRow, Parts, Says}
 use Rattle.model.specs.Run.{start, runLines, outcome, supplyOf, runScript, sheetScript, stopOf, run}
 use Rattle.model.specs.Secrecy.{WellFormed}
-use Rattle.model.proofs.Fields.{listed, fields}
+use Rattle.model.proofs.Fields.{below-four, fields}
 use Rattle.model.proofs.Lengths.{HeaderRead, header-passes, fitting}
 use Rattle.model.proofs.Trying.{all-pass, both-pass}
 use Rattle.model.proofs.Polynomials.{positive, eval-lt}
@@ -75,7 +75,7 @@ module _ {h : Header} {script : List ℕ} {input : List Row} {xs : List Line} {e
   parts =
       let L = fitting h (F .permitted) in
       record {
-        field-fits = omega (arith, listed (h .field) (F .permitted .field));
+        field-fits = omega (arith, below-four (h .field) (F .permitted .field));
         n-fits = omega (arith, P);
         t-fits = omega (arith, P);
         inputs-fit = omega arith;

@@ -11,7 +11,7 @@ use lib.Dec.{T, ltb, leb, eqb, leb→le}
 use lib.ListN.{length, getD}
 use Rattle.algebra.proofs.Tests.{and-left, and-right, choice}
 use Rattle.model.specs.Refusing.{firstFailed}
-use Rattle.model.specs.Script.{Command, Said, END, does, table, byteSays, saidAt, sizeAt, operandsIn, testsAt, numberAt, Reading, ends, says, refusal, reading, readingAt, Line, Script, accepted, refused, withLine, scriptStep, scriptFrom}
+use Rattle.model.specs.Script.{Command, Said, END, does, table, byteSays, saidAt, sizeAt, operandsIn, lastByte, testsAt, numberAt, Reading, ends, says, refusal, reading, readingAt, Line, Script, accepted, refused, withLine, scriptStep, scriptFrom}
 use Rattle.model.specs.Refusals.{From}
 use Rattle.model.proofs.Trying.{numbered, holding, all-hold}
 
@@ -73,7 +73,7 @@ module _ (p K : ℕ) (s : List ℕ) (i : ℕ) where
   unfolding numberAt firstFailed
   number-late =
       choice Late (ltb i (length s))
-      (λ _. choice Late (leb (getD s i 0) 13)
+      (λ _. choice Late (leb (getD s i 0) lastByte)
       (λ _. choice Late (leb (i + sizeAt s i) (length s))
       (λ _. choice Late (operandsIn p K (saidAt s i .1)) (λ _ z. absurd (z refl)) (λ _ _. omega arith)) (λ _ _. omega arith)) (λ _ _. omega arith)) (λ _ _. omega arith)
 

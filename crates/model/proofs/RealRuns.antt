@@ -14,7 +14,7 @@ use Rattle.model.specs.Making.{Says}
 use Rattle.model.specs.Exactness.{Accepted}
 use Rattle.model.specs.Secrecy.{WellFormed, madeOn}
 use Rattle.model.specs.RealRuns.{RealRun, RealRuns}
-use Rattle.model.proofs.Fields.{listed}
+use Rattle.model.proofs.Fields.{below-four}
 use Rattle.model.proofs.Acceptance.{sound}
 use Rattle.model.proofs.Making.{making}
 use Rattle.model.proofs.MadeSheets.{Facts, says, not-refused, script-read}
@@ -73,7 +73,7 @@ module _ (s : List ℕ) (A : Accepted s) where
   made-bytes d b =
       let h = headerOf s in
       let P = F .permitted in
-      below-append (headerBytes h) _ (header-bytes h (omega (arith, listed (h .field) (P .field))) (omega (arith, P .people)) (omega (arith, P .people)))
+      below-append (headerBytes h) _ (header-bytes h (omega (arith, below-four (h .field) (P .field))) (omega (arith, P .people)) (omega (arith, P .people)))
       (below-append (scriptIn h s) _ (below-take (h .script) (drop (headerSize h) s) (below-drop (headerSize h) s b))
       (below-append (rowBytes (h .n) (inputIn h s)) _ (row-bytes (h .n) (inputIn h s)) (row-bytes (h .n) _)))
 

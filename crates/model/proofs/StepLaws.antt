@@ -8,8 +8,9 @@ use Prim.Native.Nat.{ℕ, zero, suc, _+_, _-_, _/_}
 use lib.ListN.{set}
 use Rattle.model.specs.Trees.{Tree, done, multiply, odd}
 use Rattle.model.specs.Trees as Trees
-use Rattle.model.specs.Steps.{Setting, Row, Deal, Worked, after, rowOps, byRows, Step, stepOf, rowRemainder, minus, constant, product, comparison, remainder, floor, sign, over, blocks, quotient, lessTriple, nextTriple, beaver, value}
-use Rattle.model.specs.Parts.{parts, EveryStep, stepped, Put, EveryCommand, RunByCommands}
+use Rattle.algebra.proofs.Rows.{row-at}
+use Rattle.model.specs.Steps.{Setting, Row, Deal, Worked, after, rowOps, byRows, Step, stepOf, rowRemainder, plus, minus, times, constant, product, comparison, remainder, floor, sign, over, blocks, quotient, lessTriple, nextTriple, beaver, value}
+use Rattle.model.specs.Parts.{parts, EveryColumn, EveryStep, stepped, Put, EveryCommand, RunByCommands}
 use Rattle.model.specs.Script.{Command, MUL, MOD, TRUNC, LTZ, OVER, BLOCKS, BITLT, Line}
 use Rattle.model.specs.Refusing.{given}
 use Rattle.model.specs.Costs.{cost}
@@ -178,6 +179,16 @@ module _ (S : Setting) where
       ∙ ap (stopAt s) (sym (command-does S input (s .spent .counts .inputs) (x .command) (s .registers) _ (s .deal))))
 
 -- the closed statements of specs/Parts
+pub every-column : EveryColumn
+unfolding plus minus times constant
+every-column S =
+    record {
+      plus-at = λ a b j h. row-at (S .n) _ j h;
+      minus-at = λ a b j h. row-at (S .n) _ j h;
+      times-at = λ c a j h. row-at (S .n) _ j h;
+      constant-at = λ v j h. row-at (S .n) _ j h;
+    }
+
 pub every-step : EveryStep
 every-step S =
     record {

@@ -14,7 +14,7 @@ use Rattle.model.specs.Sharing.{Sharing, secret}
 use Rattle.model.specs.Deal.{Setting, Row, Deal, noRow}
 use Rattle.model.specs.Steps.{written}
 use Rattle.model.specs.Script.{Line, accepted}
-use Rattle.model.specs.Counts.{Counts, noCounts, added}
+use Rattle.model.specs.Counts.{Counts}
 use Rattle.model.specs.Costs.{cost}
 use Rattle.model.specs.Sheet.{headerOf, largestIn, settingOf, inputIn, dealIn, secrets, sheetNumber}
 use Rattle.model.specs.Run.{Supply, State, Stop, check, finish, start, supplyOf, sheetScript, stopOf, run}
@@ -50,23 +50,28 @@ pub record Right (S : Setting) (s : State) (vs ws : List ℕ) : Type 0 where
   pub opened : All (Sharing (S .p) (S .n) (S .t)) (s .opened)
   pub shown : s .shown ≡ ws
 
--- "Inputs counts the finished LOADs": a LOAD costs an input, and no other command does
-unfoldable pub loads : Setting → List Line → ℕ
-loads S [] = 0
-loads S (x ∷ xs) = cost S (x .command) .counts .inputs + loads S xs
+-- the sum of what finished commands spend of one kind
+unfoldable pub sumOf : (Counts → ℕ) → Setting → List Line → ℕ
+sumOf kind S [] = 0
+sumOf kind S (x ∷ xs) = kind (cost S (x .command) .counts) + sumOf kind S xs
 
--- the sum of what finished commands spend
-unfoldable pub sumOf : Setting → List Line → Counts
-sumOf S [] = noCounts
-sumOf S (x ∷ xs) = added (cost S (x .command) .counts) (sumOf S xs)
+-- "Inputs counts the finished LOADs; masks, triples and openings are the sums of what is spent over the finished commands."
+abbrev pub sums : Setting → List Line → Counts
+sums S xs =
+    record {
+      inputs = sumOf (λ k. k .inputs) S xs;
+      masks = sumOf (λ k. k .masks) S xs;
+      triples = sumOf (λ k. k .triples) S xs;
+      openings = sumOf (λ k. k .openings) S xs;
+      revealed = sumOf (λ k. k .revealed) S xs;
+    }
 
 -- "Deal spent and openings made equal the paper's counts": the commands finished so far, and that the counts are the sums of what they spend.
 -- "A deal item is never used again": so much is gone from the front of the deal. And the record has n numbers for each opening.
 pub record Counted (S : Setting) (d : Deal) (xs ys : List Line) (s : State) : Type 0 where
   pub done : List Line
   pub split : xs ≡ done ++ ys
-  pub counts : s .spent .counts ≡ sumOf S done
-  pub inputs : s .spent .counts .inputs ≡ loads S done
+  pub counts : s .spent .counts ≡ sums S done
   pub balance : s .spent .counts .openings ≡ s .spent .counts .masks + 2 * s .spent .counts .triples + s .spent .counts .revealed
   pub masks-left : s .deal .masks ≡ drop (s .spent .counts .masks) (d .masks)
   pub triples-left : s .deal .triples ≡ drop (s .spent .counts .triples) (d .triples)

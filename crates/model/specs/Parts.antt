@@ -1,14 +1,15 @@
 -- What Trees.antt and Commands.antt say, written out on rows: MUL; MOD by its parts, of which the paper's figures name C, f and u; TRUNC, LTZ, OVER and
--- BLOCKS by the step that they rest on; that no step reveals anything; commands by the step of their name; and a run by its commands.
+-- BLOCKS by the step that they rest on; rows column by column; that no step reveals anything; commands by the step of their name; and a run by its commands.
 -- Assumes nothing.
 use mathlib.Core.Path.{_≡_}
 use mathlib.Core.List.{List, [], _∷_, _++_}
-use Prim.Native.Nat.{ℕ, _+_, _-_, _%_, _^_}
-use lib.ListN.{set, take}
+use Prim.Native.Nat.{ℕ, _+_, _-_, _%_, _^_, _<_}
+use lib.ListN.{getD, set, take}
+use Rattle.algebra.specs.Ring.{add, sub, mul}
 use Rattle.model.specs.Trees.{Tree, done, multiply}
 use Rattle.model.specs.Trees as Trees
 use Rattle.model.specs.Deal.{Setting, Row, Deal, noRow}
-use Rattle.model.specs.Steps.{lessTriple, lessMask, plus, minus, constant, rowOps, value, nextTriple, nextMask, beaver, byRows, Step, rowRemainder}
+use Rattle.model.specs.Steps.{lessTriple, lessMask, plus, minus, times, constant, rowOps, value, nextTriple, nextMask, beaver, byRows, Step, rowRemainder}
 use Rattle.model.specs.Steps.{product, comparison, remainder, floor, sign, over, blocks, masked, unmasked, quotient}
 use Rattle.model.specs.Script.{Command, MUL, MOD, TRUNC, LTZ, OVER, BLOCKS, BITLT, Line}
 use Rattle.model.specs.Refusing.{given}
@@ -77,6 +78,16 @@ pub record StepParts (S : Setting) : Type 0 where
   pub sign-silent : (k : ℕ) (a : Row) → Silent S (Trees.sign (S .p) (rowOps S) (rowRemainder S) k a done)
   pub over-silent : (k v : ℕ) (a : Row) → Silent S (Trees.over (S .p) (rowOps S) (rowRemainder S) k v a done)
   pub blocks-silent : (k m : ℕ) (a : Row) → Silent S (Trees.blocks (S .p) (rowOps S) (rowRemainder S) k m a done)
+
+-- "One column is worked from its own cells": share j of a sum, a difference and a multiple is made of the shares j, and a constant's is its value
+pub record Columns (S : Setting) : Type 0 where
+  pub plus-at : (a b : Row) (j : ℕ) → j < S .n → getD (plus S a b) j 0 ≡ add (S .p) (getD a j 0) (getD b j 0)
+  pub minus-at : (a b : Row) (j : ℕ) → j < S .n → getD (minus S a b) j 0 ≡ sub (S .p) (getD a j 0) (getD b j 0)
+  pub times-at : (c : ℕ) (a : Row) (j : ℕ) → j < S .n → getD (times S c a) j 0 ≡ mul (S .p) c (getD a j 0)
+  pub constant-at : (v j : ℕ) → j < S .n → getD (constant S v) j 0 ≡ v
+
+abbrev pub EveryColumn : Type 0
+EveryColumn = (S : Setting) → Columns S
 
 -- for whatever p, ℓ, n and t
 abbrev pub EveryStep : Type 0

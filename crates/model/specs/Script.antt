@@ -124,6 +124,10 @@ abbrev pub operandsIn : ℕ → ℕ → Said → Bool
 operandsIn p K END = true
 operandsIn p K (does c) = inRanges p K c
 
+-- the last command byte, 0D
+abbrev pub lastByte : ℕ
+lastByte = 13
+
 -- What must hold at place i, in the order in which it is tried, each with the number of the refusal where it fails. The third case of 10, bytes
 -- after END, is tried in scriptStep.
 abbrev pub testsAt : ℕ → ℕ → List ℕ → ℕ → List (Bool × ℕ)
@@ -131,7 +135,7 @@ testsAt p K s i =
     -- "10: operands cut off, no END, or bytes after END (an empty script too)": the script ends here, and has no END
     (ltb i (length s), 10)
     -- "9: a command byte over 0D"
-    ∷ (leb (getD s i 0) 13, 9)
+    ∷ (leb (getD s i 0) lastByte, 9)
     -- operands cut off
     ∷ (leb (i + sizeAt s i) (length s), 10)
     -- "11: an operand out of range"

@@ -9,7 +9,7 @@ use borrow.Author.Tests.{lt-ltb, le-leb, lt-leb}
 use lib.Dec.{eqb}
 use lib.ListN.{length, getD}
 use Rattle.model.specs.Refusing.{firstFailed}
-use Rattle.model.specs.Script.{Command, Said, END, does, byteSays, sizeAt, inRanges, operandsIn, numberAt, Reading, ends, says, refusal, reading, readingAt, Script, accepted, refused, scriptStep}
+use Rattle.model.specs.Script.{Command, Said, END, does, byteSays, sizeAt, inRanges, operandsIn, lastByte, numberAt, Reading, ends, says, refusal, reading, readingAt, Script, accepted, refused, scriptStep}
 use Rattle.model.proofs.Readings.{missing}
 use Rattle.script.specs.Meaning.{Standing, goes, stops, standing, scriptNumber, scriptPlace}
 
@@ -18,11 +18,11 @@ module _ (p K : ℕ) (s : List ℕ) (i : ℕ) where
   reads-missing h = rw (missing p K s i h)
 
   module _ {op : ℕ} (h : i < length s) (e : op ≡ getD s i 0) where
-    pub reads-unknown : 13 < op → stops 9 i ≡ standing (readingAt p K s i) (length s) i
+    pub reads-unknown : lastByte < op → stops 9 i ≡ standing (readingAt p K s i) (length s) i
     unfolding readingAt numberAt firstFailed
     reads-unknown l = rw (lt-ltb _ _ h, ← e, lt-leb _ _ l)
 
-    module _ {size : ℕ} (l : op ≤ 13) (f : (t : List ℕ) (j : ℕ) → size ≡ byteSays t j op .0) where
+    module _ {size : ℕ} (l : op ≤ lastByte) (f : (t : List ℕ) (j : ℕ) → size ≡ byteSays t j op .0) where
       size-is : sizeAt s i ≡ size
       size-is = rw (sizeAt, ← e) (sym (f s i))
 

@@ -6,7 +6,7 @@ use Prim.Native.Nat.{ℕ, zero, suc, _+_, _-_, _≤_, _<_}
 use native.Mathlib.Omega.{arith}
 use lib.Dec.{T, leb, leb→le}
 use lib.ListN.{length, getD}
-use Rattle.model.specs.Script.{Said, END, table, byteSays}
+use Rattle.model.specs.Script.{Said, END, table, byteSays, lastByte}
 
 -- the sizes alone
 sizes-of : (rows : List (ℕ × Said)) (k : ℕ) → k < length rows → getD (map (λ row. row .0) rows) k 0 ≡ getD rows k (1, END) .0
@@ -14,7 +14,7 @@ sizes-of [] k h = absurd (omega arith)
 sizes-of (row ∷ rows) zero h = refl
 sizes-of (row ∷ rows) (suc k) h = sizes-of rows k (omega arith)
 
-pub size-known : (s : List ℕ) (i op : ℕ) → op ≤ 13 → getD (map (λ row. row .0) (table s i)) op 0 ≡ byteSays s i op .0
+pub size-known : (s : List ℕ) (i op : ℕ) → op ≤ lastByte → getD (map (λ row. row .0) (table s i)) op 0 ≡ byteSays s i op .0
 unfolding byteSays
 size-known s i op h = sizes-of (table s i) op (omega arith)
 

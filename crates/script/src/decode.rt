@@ -10,11 +10,14 @@ use crate::command::Decoded;
 use crate::operands;
 use crate::ranges;
 
+const LAST_BYTE: usize = 13;
+
+// What END and each command take, by their bytes.
 const SIZES: [usize; 14] = [1, 2, 6, 4, 4, 7, 4, 5, 5, 4, 8, 5, 2, 8];
 
-// How many bytes END or a command takes, by its own.
+// How many bytes END or a command takes, by its own byte.
 fn size_of(op: usize) -> usize
-    requires { ⌜ op ≤ 13 ⌝ }
+    requires { ⌜ op ≤ Script.lastByte ⌝ }
     ensures { λ r. ⌜ ((s : List ℕ) (i : ℕ) → r ≡ Script.byteSays s i op .0) ⌝ }
 {
     SIZES[op]
@@ -39,7 +42,7 @@ pub fn decode(p: u32, largest: u32, s: &[u8], at: usize) -> Decoded
         return Decoded::Ends(10, at);
     }
     let op = words::index(s[at]);
-    if 13 < op {
+    if LAST_BYTE < op {
         return Decoded::Ends(9, at);
     }
     let size = size_of(op);

@@ -20,7 +20,7 @@ fn operand(s: &[u8], at: usize, j: usize) -> usize
 
 // The command at a place whose byte is op, 1 to 13, where it is whole.
 pub fn command_at(s: &[u8], at: usize, op: usize) -> Command
-    requires { ⌜ (1 ≤ op) × (op ≤ 13) × (at + Script.byteSays (now s) at op .0 ≤ length (now s)) ⌝ }
+    requires { ⌜ (1 ≤ op) × (op ≤ Script.lastByte) × (at + Script.byteSays (now s) at op .0 ≤ length (now s)) ⌝ }
     ensures { λ r. ⌜ Script.does (meant r) ≡ Script.byteSays (now (s .entry)) at op .1 ⌝ }
 {
     if op <= 6 {
@@ -57,7 +57,7 @@ fn up_to_mul(s: &[u8], at: usize, op: usize) -> Command
 
 // MOD, TRUNC, LTZ, OVER, BLOCKS, REVEAL and BITLT.
 fn from_mod(s: &[u8], at: usize, op: usize) -> Command
-    requires { ⌜ (7 ≤ op) × (op ≤ 13) × (at + Script.byteSays (now s) at op .0 ≤ length (now s)) ⌝ }
+    requires { ⌜ (7 ≤ op) × (op ≤ Script.lastByte) × (at + Script.byteSays (now s) at op .0 ≤ length (now s)) ⌝ }
     ensures { λ r. ⌜ Script.does (meant r) ≡ Script.byteSays (now (s .entry)) at op .1 ⌝ }
 {
     let d = operand(s, at, 1);

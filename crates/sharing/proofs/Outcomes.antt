@@ -9,7 +9,7 @@ use lib.Dec.{ltb, eqb, eqb→eq}
 use lib.ListN.{length, take, drop}
 use Rattle.algebra.specs.Lists.{allBelow, ontoAt}
 use Rattle.algebra.specs.Rows.{padded}
-use Rattle.algebra.proofs.Lists.{over-all, onto-at-start}
+use Rattle.algebra.proofs.Lists.{onto-all, onto-at-start}
 use Rattle.algebra.proofs.Tests.{and-left, and-right}
 use Rattle.model.specs.Fields.{modulus, InUse, Parties, fieldTests, settingTests}
 use Rattle.model.specs.Sharing.{share, recover, secret}
@@ -39,7 +39,7 @@ module _ (f n t s : ℕ) (cs out : List ℕ) {r : ℕ} (e : r ≡ shareNumber f 
   pub shared : r ≡ 0 → {p : ℕ} → p ≡ modulus f → {x last : List ℕ} → x ≡ share p n (s ∷ cs) → last ≡ ontoAt 0 (take n x) out → last ≡ shareLeft f n t s cs out
   shared z q x-is w =
       let A = share-accepted f n t s cs (length out) (sym e ∙ z) in
-      w ∙ onto-at-start _ out ∙ over-all _ out (rw (x-is, length-shares) (omega (arith, A .room))) ∙ rw (x-is, q) (sym (share-left f n t s cs out (sym e ∙ z)))
+      w ∙ onto-at-start _ out ∙ onto-all _ out (rw (x-is, length-shares) (omega (arith, A .room))) ∙ rw (x-is, q) (sym (share-left f n t s cs out (sym e ∙ z)))
 
   pub share-refused : (r ≡ 0 → ⊥) → out ≡ shareLeft f n t s cs out
   unfolding shareLeft

@@ -11,7 +11,7 @@ use lib.ListN.{length, getD, set, drop, length-drop}
 use lib.Seq.{getD-drop, take-all}
 use Rattle.algebra.specs.Ring.{sub, mul}
 use Rattle.algebra.specs.Rows.{row}
-use Rattle.algebra.proofs.Lists.{Writing, writing-start, writing-more, writing-end, writing-length, over-all}
+use Rattle.algebra.proofs.Lists.{Writing, writing-start, writing-more, writing-end, writing-length, onto-all}
 use Rattle.algebra.proofs.Rows.{row-at}
 use Rattle.model.specs.Fields.{Modulus, inverse}
 use Rattle.model.specs.Sharing.{eval, recover, secret}
@@ -63,7 +63,7 @@ module _ {p : ℕ} (M : Modulus p) (t : ℕ) (h : t ≤ 3) (x out₀ : List ℕ)
   pub recovering-end : {k c : ℕ} {rest out : List ℕ} → Recovering p t x out₀ k c rest out → t ≤ k → out ≡ drop 1 (recover p t x)
   recovering-end R b =
       let size : length (drop 1 (recover p t x)) ≡ t = rw (length-drop, length-recover p t x) (omega arith) in
-      writing-end (R .written) b ∙ rw (take-all t (drop 1 (recover p t x)) (omega arith)) (over-all _ out₀ (omega arith))
+      writing-end (R .written) b ∙ rw (take-all t (drop 1 (recover p t x)) (omega arith)) (onto-all _ out₀ (omega arith))
 
   pub recovering-length : {k c : ℕ} {rest out : List ℕ} → Recovering p t x out₀ k c rest out → length out ≡ t
   recovering-length R =

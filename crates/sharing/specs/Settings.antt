@@ -9,7 +9,7 @@ use Rattle.sharing.specs.declared.setting.Setting.{Setting}
 abbrev pub settingOf : Setting → Paper.Setting
 settingOf S = record { p = S .p; l = S .l; n = S .n; t = S .t }
 
--- p is one of the table's moduli, rows of n shares fit seven cells, t + 1 shares are at most four, and a mask has at most 31 bits.
+-- p is the modulus of a field in use, rows of n shares fit seven cells, t + 1 shares are at most four, and a mask has at most 31 bits.
 pub record Fitting (S : Setting) : Type 0 where
   pub modulus : Modulus (S .p)
   pub parties : S .n ≤ 7

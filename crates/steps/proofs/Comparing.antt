@@ -15,7 +15,7 @@ use Rattle.sharing.specs.Settings.{settingOf}
 use Rattle.sharing.specs.declared.setting.Setting.{Setting}
 use Rattle.steps.specs.declared.places.Places.{Places}
 use Rattle.steps.specs.Places.{pastTriples, Ahead, Room}
-use Rattle.steps.specs.Promises.{Leaves, Works}
+use Rattle.steps.specs.Promises.{StepLeaves, Works}
 use Rattle.steps.proofs.Leaving.{done-leaves, product-then}
 use Rattle.steps.proofs.Rooms.{room-first, room-past, room-ahead}
 
@@ -40,7 +40,7 @@ first-bit S bits v turns eb el d = rw (el, eb)
 
 -- one product, and the bits behind it
 turn : {s : List ℕ} {S : Setting} (bits : List ℕ) (k rest t : ℕ) (lt bit : Row) {q next : Row} {at : Places} (log : List ℕ) {log′ log″ : List ℕ} {row : Row} → S .n ≤ 7
-    → bit ≡ take 7 (drop (7 * k) bits) → Leaves s S at 1 (product (settingOf S) bit lt) q log log′ → next ≡ chosen (settingOf S) (odd rest) bit lt q
+    → bit ≡ take 7 (drop (7 * k) bits) → StepLeaves s S at 1 (product (settingOf S) bit lt) q log log′ → next ≡ chosen (settingOf S) (odd rest) bit lt q
     → Works s S (pastTriples S at 1) t (fromBit S bits (k + 1) t (rest / 2) next) row log′ log″
     → (u : ℕ) → u ≡ 1 + t → Works s S at u (fromBit S bits k u rest lt) row log log″
 turn {S = S} bits k rest t lt bit log h eb P en L u e =
@@ -56,7 +56,7 @@ pub record Comparing (s : List ℕ) (S : Setting) (v w : ℕ) (bits : List ℕ) 
   pub room : Room s log S at turns
   pub kept : length log ≡ length log₀
   pub whole : (row : Row) (log′ : List ℕ) → Works s S at turns (fromBit S bits k turns rest lt) row log log′
-      → Leaves s S at₀ (w - 1) (comparison (settingOf S) v (sevens w bits)) row log₀ log′
+      → StepLeaves s S at₀ (w - 1) (comparison (settingOf S) v (sevens w bits)) row log₀ log′
 
 module _ {s : List ℕ} {S : Setting} {v w : ℕ} {bits : List ℕ} {at₀ : Places} {log₀ : List ℕ} where
   pub comparing-start : {bit lt : Row} → (w < 2 ^ 64) × (length s < 2 ^ 64) × (length log₀ < 2 ^ 64) → 1 ≤ w → Room s log₀ S at₀ (w - 1)
@@ -89,7 +89,7 @@ module _ {s : List ℕ} {S : Setting} {v w : ℕ} {bits : List ℕ} {at₀ : Pla
     pub turn-counts : k < w → k + 1 < 2 ^ 64
     turn-counts h = omega (arith, C .short .0)
 
-    pub comparing-more : {bit q next : Row} {log′ : List ℕ} → k < w → bit ≡ take 7 (drop (7 * k) bits) → Leaves s S at 1 (product (settingOf S) bit lt) q log log′
+    pub comparing-more : {bit q next : Row} {log′ : List ℕ} → k < w → bit ≡ take 7 (drop (7 * k) bits) → StepLeaves s S at 1 (product (settingOf S) bit lt) q log log′
         → length log′ ≡ length log → next ≡ chosen (settingOf S) (odd rest) bit lt q → Comparing s S v w bits at₀ log₀ log′ next (rest / 2) (pastTriples S at 1) (k + 1)
     comparing-more {bit} {log′ = log′} h eb P e en =
         record {
@@ -101,7 +101,7 @@ module _ {s : List ℕ} {S : Setting} {v w : ℕ} {bits : List ℕ} {at₀ : Pla
           whole = λ row log″ L. C .whole row log″ (turn bits k rest _ lt bit log (C .room .fitting .parties) eb P en L (C .turns) (one-turn h));
         }
 
-    pub comparing-end : w ≤ k → Leaves s S at₀ (w - 1) (comparison (settingOf S) v (sevens w bits)) lt log₀ log
+    pub comparing-end : w ≤ k → StepLeaves s S at₀ (w - 1) (comparison (settingOf S) v (sevens w bits)) lt log₀ log
     unfolding Trees.comparisonFrom sevens
     comparing-end h =
         let z : C .turns ≡ 0 = omega (arith, C .count) in

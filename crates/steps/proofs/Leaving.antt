@@ -22,7 +22,7 @@ use Rattle.sharing.specs.Settings.{settingOf}
 use Rattle.sharing.specs.declared.setting.Setting.{Setting}
 use Rattle.steps.specs.declared.places.Places.{Places}
 use Rattle.steps.specs.Places.{pastTriples}
-use Rattle.steps.specs.Promises.{Dealt, Leaves, Works}
+use Rattle.steps.specs.Promises.{Dealt, StepLeaves, Works}
 
 -- what stands behind k triples
 pub triples-past : (s : List ℕ) (n i k c : ℕ) → drop k (triplesFrom s n i (k + c)) ≡ triplesFrom s n (i + k * (12 * n)) c
@@ -60,7 +60,7 @@ done-leaves {at = at} {log = log} d D = record { row-is = refl; log-is = sym (on
 module _ {s : List ℕ} {S : Setting} (h : S .n ≤ 7) {at : Places} {k : ℕ} {f row : Row} {log log′ log″ : List ℕ} where
   -- a step of j triples, and the rest from the places past them
   step-then : (j : ℕ) (T : (Row → Tree Row Row) → Tree Row Row) {step : Deal → Step} (go : Row → Tree Row Row) → WorksAs (settingOf S) T step
-      → ((d : Deal) → Took d 0 j (2 * j) (step d)) → Leaves s S at j step f log log′
+      → ((d : Deal) → Took d 0 j (2 * j) (step d)) → StepLeaves s S at j step f log log′
       → Works s S (pastTriples S at j) k (go f) row log′ log″ → Works s S at (j + k) (T go) row log log″
   step-then j T {step = step} go does took first rest d D =
       let x = step d in
@@ -69,11 +69,11 @@ module _ {s : List ℕ} {S : Setting} (h : S .n ≤ 7) {at : Places} {k : ℕ} {
       let size : length (written (settingOf S) (x .opened)) ≡ j * (2 * S .n) = length-written (settingOf S) h (took d .rows) ∙ rw (took d .opens) (omega arith) in
       rw (does go d, ← L .row-is) (record { row-is = R .row-is; log-is = log-then (settingOf S) (at .log) (x .opened) _ log (L .log-is) size (R .log-is) })
 
-  pub product-then : (x y : Row) (go : Row → Tree Row Row) → Leaves s S at 1 (product (settingOf S) x y) f log log′
+  pub product-then : (x y : Row) (go : Row → Tree Row Row) → StepLeaves s S at 1 (product (settingOf S) x y) f log log′
       → Works s S (pastTriples S at 1) k (go f) row log′ log″ → Works s S at (1 + k) (multiply x y go) row log log″
   product-then x y go = step-then 1 (multiply x y) go (product-does (settingOf S) x y) (took-product (settingOf S) h x y)
 
-  pub comparison-then : (v w : ℕ) (cells : List ℕ) (go : Row → Tree Row Row) → Leaves s S at (w - 1) (comparison (settingOf S) v (sevens w cells)) f log log′
+  pub comparison-then : (v w : ℕ) (cells : List ℕ) (go : Row → Tree Row Row) → StepLeaves s S at (w - 1) (comparison (settingOf S) v (sevens w cells)) f log log′
       → Works s S (pastTriples S at (w - 1)) k (go f) row log′ log″
       → Works s S at ((w - 1) + k) (Trees.comparison (rowOps (settingOf S)) v (sevens w cells) go) row log log″
   comparison-then v w cells go =

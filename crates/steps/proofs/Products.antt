@@ -15,7 +15,7 @@ use Rattle.model.proofs.Written.{length-written}
 use Rattle.sharing.specs.Settings.{settingOf}
 use Rattle.sharing.specs.declared.setting.Setting.{Setting}
 use Rattle.steps.specs.declared.places.Places.{Places}
-use Rattle.steps.specs.Promises.{Opens, Leaves}
+use Rattle.steps.specs.Promises.{Opens, StepLeaves}
 use Rattle.steps.proofs.Leaving.{log-then}
 
 -- an opened row is n numbers of the record
@@ -25,7 +25,7 @@ one-opened S x h e = length-written S h (one e none) ∙ omega arith
 pub product-leaves : {s : List ℕ} {S : Setting} {at : Places} (x y : Row) {a b c r : Row} {a1 b1 : ℕ} {log log′ log″ : List ℕ} → S .n ≤ 7
     → a ≡ rowAt s (S .n) (at .triple) → b ≡ rowAt s (S .n) (at .triple + 4 * S .n) → c ≡ rowAt s (S .n) (at .triple + 8 * S .n)
     → Opens S (at .log) (minus (settingOf S) x a) a1 log log′ → Opens S (at .log + S .n) (minus (settingOf S) y b) b1 log′ log″
-    → r ≡ beaver (settingOf S) a1 b1 (record { a = a; b = b; c = c }) → Leaves s S at 1 (product (settingOf S) x y) r log log″
+    → r ≡ beaver (settingOf S) a1 b1 (record { a = a; b = b; c = c }) → StepLeaves s S at 1 (product (settingOf S) x y) r log log″
 unfolding product byRows
 product-leaves {s} {S} {at} x y {a} {b} {c} {log = log} h ea eb ec A B er d D =
     rw next

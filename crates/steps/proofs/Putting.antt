@@ -9,7 +9,7 @@ use native.Mathlib.Omega.{arith}
 use lib.ListN.{length, take, drop, length-drop}
 use lib.Seq.{take-all, take-at}
 use Rattle.algebra.specs.Lists.{onto, ontoAt}
-use Rattle.algebra.proofs.Lists.{onto-at-start, length-onto-at, take-onto-at, drop-onto-at}
+use Rattle.algebra.proofs.Lists.{onto-at-start, length-onto-at, take-onto-at, drop-onto-at, drop-past}
 use Rattle.algebra.proofs.Rows.{length-row}
 use Rattle.model.specs.Bytes.{rowAt, sevens}
 use Rattle.model.specs.Sheet.{rowsAt}
@@ -36,11 +36,12 @@ pub record Putting (s : List ℕ) (n i count : ℕ) (cells₀ cells : List ℕ) 
   pub from-is : from ≡ i + k * (4 * n)
   pub is : sevens k cells ≡ rowsAt s n i k
   pub kept : length cells ≡ length cells₀
+  pub past : drop (7 * count) cells ≡ drop (7 * count) cells₀
 
 module _ {s : List ℕ} {n i count : ℕ} {cells₀ : List ℕ} where
   pub putting-start : Putting s n i count cells₀ cells₀ i 0
   unfolding sevens rowsAt
-  putting-start = record { within = omega arith; from-is = omega arith; is = refl; kept = refl }
+  putting-start = record { within = omega arith; from-is = omega arith; is = refl; kept = refl; past = refl }
 
   module _ {cells : List ℕ} {from k : ℕ} (P : Putting s n i count cells₀ cells from k) where
     pub putting-fits : k < count → from + 4 * n ≤ i + count * (4 * n)
@@ -58,7 +59,12 @@ module _ {s : List ℕ} {n i count : ℕ} {cells₀ : List ℕ} where
           from-is = omega (arith, P .from-is);
           is = rw (put, put-row k x cells seven (omega (arith, P .kept)), P .is, row-last s n i k, place, ex);
           kept = ap length put ∙ length-onto-at (7 * k) x cells (omega (arith, P .kept)) ∙ P .kept;
+          past = rw put (drop-past (7 * count) (7 * k) x cells (omega arith) (omega (arith, P .kept)) ∙ P .past);
         }
 
-  pub putting-end : {cells : List ℕ} {from k : ℕ} → Putting s n i count cells₀ cells from k → count ≤ k → sevens count cells ≡ rowsAt s n i count
-  putting-end {k = k} P h = let e : k ≡ count = omega (arith, P .within) in rw e at (P .is)
+  module _ {cells : List ℕ} {from k : ℕ} (P : Putting s n i count cells₀ cells from k) where
+    pub putting-end : count ≤ k → sevens count cells ≡ rowsAt s n i count
+    putting-end h = let e : k ≡ count = omega (arith, P .within) in rw e at (P .is)
+
+    pub putting-past : drop (7 * count) cells ≡ drop (7 * count) cells₀
+    putting-past = P .past

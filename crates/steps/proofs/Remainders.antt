@@ -15,7 +15,7 @@ use Rattle.sharing.specs.declared.setting.Setting.{Setting}
 use Rattle.steps.specs.declared.places.Places.{Places}
 use Rattle.steps.specs.declared.remainder.Publics.{Publics}
 use Rattle.steps.specs.Places.{pastTriples, pastMask, Bits, Room}
-use Rattle.steps.specs.Promises.{Opens, Leaves, Works, MaskedLeaves}
+use Rattle.steps.specs.Promises.{Opens, StepLeaves, Works, MaskedLeaves}
 use Rattle.steps.specs.Remainders.{publics, MaskBits, fTriples, unmaskedBy, afterU1, afterF, afterC, fromX}
 use Rattle.steps.proofs.Leaving.{log-then, done-leaves, product-then, comparison-then}
 use Rattle.steps.proofs.Products.{one-opened}
@@ -43,12 +43,12 @@ module _ {S : Setting} {m : ℕ} {cells : List ℕ} (L : MaskBits S m cells) whe
 
 module _ {s : List ℕ} {S : Setting} {at : Places} {log log′ : List ℕ} {row : Row} where
   pub u1-leaves : (x : Publics) (low : List Row) (f u0 u1 : Row) {d g u : Row} → S .n ≤ 7 → d ≡ minus (settingOf S) u1 u0
-      → Leaves s S at 1 (product (settingOf S) f d) g log log′ → u ≡ plus (settingOf S) u0 g → row ≡ unmaskedBy S x low f u
+      → StepLeaves s S at 1 (product (settingOf S) f d) g log log′ → u ≡ plus (settingOf S) u0 g → row ≡ unmaskedBy S x low f u
       → Works s S at 1 (afterU1 S x low f u0 u1) row log log′
   u1-leaves x low f u0 u1 h ed P eu er = product-then h {k = 0} f _ _ (rw ed at P) (rw (er, eu) done-leaves)
 
   pub c-leaves : (m C : ℕ) (cells : List ℕ) {x : Publics} {f : Row} {log″ : List ℕ} → MaskBits S m cells → x ≡ publics (S .p) m C
-      → Leaves s S at (S .l - 1) (comparison (settingOf S) C (sevens (S .l) cells)) f log log′
+      → StepLeaves s S at (S .l - 1) (comparison (settingOf S) C (sevens (S .l) cells)) f log log′
       → Works s S (pastTriples S at (S .l - 1)) (fTriples (x .m)) (afterF S x (sevens (x .m) cells) f) row log′ log″
       → Works s S at (modTriples (S .l) m) (afterC S m C (sevens (S .l) cells)) row log log″
   c-leaves m C cells L ex A R =

@@ -30,12 +30,12 @@ pub record Left (S : Setting) (at : Places) (x : Step) (row : Row) (log log′ :
   pub log-is : log′ ≡ ontoAt (at .log) (written (settingOf S) (x .opened)) log
 
 -- so for every deal with k such triples
-abbrev pub Leaves : List ℕ → Setting → Places → ℕ → (Deal → Step) → Row → List ℕ → List ℕ → Type 0
-Leaves s S at k step row log log′ = (d : Deal) → Dealt s S at k d → Left S at (step d) row log log′
+abbrev pub StepLeaves : List ℕ → Setting → Places → ℕ → (Deal → Step) → Row → List ℕ → List ℕ → Type 0
+StepLeaves s S at k step row log log′ = (d : Deal) → Dealt s S at k d → Left S at (step d) row log log′
 
 -- the same of a tree, worked on rows
 abbrev pub Works : List ℕ → Setting → Places → ℕ → Tree Row Row → Row → List ℕ → List ℕ → Type 0
-Works s S at k T row log log′ = Leaves s S at k (stepOf (settingOf S) T) row log log′
+Works s S at k T row log log′ = StepLeaves s S at k (stepOf (settingOf S) T) row log log′
 
 -- the rows of the mask at its place
 abbrev pub maskAt : List ℕ → Setting → Places → List Row

@@ -1,7 +1,7 @@
 // Dealt bits as cells, seven to a row, and the number that they spell.
 ghost use mathlib.Core.Path.{_≡_};
 ghost use Prim.Native.Nat.{_+_, _*_, _≤_};
-ghost use lib.ListN.{length};
+ghost use lib.ListN.{length, drop};
 ghost use Rattle.model.specs.Bytes as Bytes;
 ghost use Rattle.model.specs.Sheet as Sheet;
 ghost use Rattle.model.specs.Steps as Steps;
@@ -10,10 +10,10 @@ use sharing::rows;
 use sharing::rows::Row;
 use sharing::setting::Setting;
 
-// So many rows, from place i of the sheet's bytes on, become the first rows of the cells.
+// So many rows, from place i of the sheet's bytes on, become the first rows of the cells. Past them the cells are unchanged.
 pub fn put_rows(n: usize, s: &[u8], i: usize, count: usize, cells: &mut [u32])
     requires { ⌜ (n ≤ 7) × (i + count * (4 * n) ≤ length (now s)) × (7 * count ≤ length (now cells)) ⌝ }
-    ensures { λ _. ⌜ Bytes.sevens count (now (cells .exit)) ≡ Sheet.rowsAt (now (s .entry)) n i count ⌝ }
+    ensures { λ _. ⌜ (Bytes.sevens count (now (cells .exit)) ≡ Sheet.rowsAt (now (s .entry)) n i count) × (drop (7 * count) (now (cells .exit)) ≡ drop (7 * count) (now (cells .entry))) ⌝ }
 {
     let mut from = i;
     let mut k = 0;

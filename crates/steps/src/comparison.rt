@@ -6,7 +6,7 @@ ghost use Rattle.model.specs.Bytes as Bytes;
 ghost use Rattle.model.specs.Steps as Steps;
 ghost use Rattle.sharing.specs.Settings.{settingOf, Fitting};
 ghost use Rattle.steps.specs.Places.{Bits, Room};
-ghost use Rattle.steps.specs.Promises.{Leaves};
+ghost use Rattle.steps.specs.Promises.{StepLeaves};
 use crate::places::Places;
 use crate::product;
 use sharing::rows;
@@ -14,7 +14,7 @@ use sharing::rows::Row;
 use sharing::setting::Setting;
 
 // "lt is bit 0 if v's bit 0 is 0, else the zero sharing."
-fn first_row(setting: Setting, one: bool, bit: Row) -> Row
+pub fn first_row(setting: Setting, one: bool, bit: Row) -> Row
     requires { ⌜ Fitting setting ⌝ }
     ensures { λ r. ⌜ r .shares ≡ cond one (Steps.constant (settingOf setting) 0) (bit .shares) ⌝ }
 {
@@ -26,7 +26,7 @@ fn first_row(setting: Setting, one: bool, bit: Row) -> Row
 }
 
 // "lt becomes bit i + lt − q where v's bit i is 0, else q."
-fn next_row(setting: Setting, one: bool, bit: Row, lt: Row, q: Row) -> Row
+pub fn next_row(setting: Setting, one: bool, bit: Row, lt: Row, q: Row) -> Row
     requires { ⌜ Fitting setting ⌝ }
     ensures { λ r. ⌜ r .shares ≡ Steps.chosen (settingOf setting) one (bit .shares) (lt .shares) (q .shares) ⌝ }
 {
@@ -47,7 +47,7 @@ pub fn comparison(
     bits: &[u32],
 ) -> Row
     requires { ⌜ Bits w (now bits) × Room (now s) (now log) setting at (w - 1) ⌝ }
-    ensures { λ r. ⌜ Leaves (now (s .entry)) setting at (w - 1) (Steps.comparison (settingOf setting) v (Bytes.sevens w (now (bits .entry)))) (r .shares) (now (log .entry)) (now (log .exit)) ⌝ }
+    ensures { λ r. ⌜ StepLeaves (now (s .entry)) setting at (w - 1) (Steps.comparison (settingOf setting) v (Bytes.sevens w (now (bits .entry)))) (r .shares) (now (log .entry)) (now (log .exit)) ⌝ }
 {
     let mut lt = first_row(setting, v % 2 == 1, rows::cell_row(bits, 0));
     let mut rest = v / 2;

@@ -46,8 +46,8 @@ pub fn low(c: Cut) -> u32
     }
 }
 
-// The row that is cut. OVER: "LTZ of (v − a)".
-fn before(setting: Setting, c: Cut, a: Row) -> Row
+// The row whose remainder is taken. OVER: "LTZ of (v − a)".
+pub fn before(setting: Setting, c: Cut, a: Row) -> Row
     requires { ⌜ Fitting setting ⌝ }
     ensures { λ r. ⌜ r .shares ≡ beforeRow (settingOf setting) c (a .shares) ⌝ }
 {
@@ -61,7 +61,7 @@ fn before(setting: Setting, c: Cut, a: Row) -> Row
 }
 
 // "(a − MOD) times the inverse of 2^m."
-fn quotient_row(setting: Setting, m: u32, a: Row, remainder: Row) -> Row
+pub fn quotient_row(setting: Setting, m: u32, a: Row, remainder: Row) -> Row
     requires { ⌜ Fitting setting ⌝ }
     ensures { λ r. ⌜ r .shares ≡ Steps.quotient (settingOf setting) m (a .shares) (remainder .shares) ⌝ }
 {
@@ -70,15 +70,15 @@ fn quotient_row(setting: Setting, m: u32, a: Row, remainder: Row) -> Row
 }
 
 // Minus the quotient.
-fn sign_row(setting: Setting, quotient: Row) -> Row
+pub fn sign_row(setting: Setting, quotient: Row) -> Row
     requires { ⌜ Fitting setting ⌝ }
     ensures { λ r. ⌜ r .shares ≡ Steps.minus (settingOf setting) (Steps.constant (settingOf setting) 0) (quotient .shares) ⌝ }
 {
     rows::sub_rows(setting, rows::constant_row(setting, 0), quotient)
 }
 
-// The row left, of the row that was cut and its remainder.
-fn after(setting: Setting, c: Cut, m: u32, x: Row, remainder: Row) -> Row
+// The row left, made of that row and its remainder.
+pub fn after(setting: Setting, c: Cut, m: u32, x: Row, remainder: Row) -> Row
     requires { ⌜ Fitting setting × (m ≡ lowOf c) ⌝ }
     ensures { λ r. ⌜ r .shares ≡ afterRow (settingOf setting) c (x .shares) (remainder .shares) ⌝ }
 {

@@ -5,7 +5,7 @@ ghost use lib.ListN.{length};
 ghost use Rattle.model.specs.Steps as Steps;
 ghost use Rattle.sharing.specs.Settings.{settingOf, Fitting};
 ghost use Rattle.steps.specs.Places.{Room};
-ghost use Rattle.steps.specs.Promises.{Opens, Leaves};
+ghost use Rattle.steps.specs.Promises.{Opens, StepLeaves};
 use crate::opening;
 use crate::places::Places;
 use field::arithmetic;
@@ -14,7 +14,7 @@ use sharing::rows::Row;
 use sharing::setting::Setting;
 
 // Opens x − a at a place of the record.
-fn open_difference(setting: Setting, at: usize, log: &mut [u32], x: Row, a: Row) -> u32
+pub fn open_difference(setting: Setting, at: usize, log: &mut [u32], x: Row, a: Row) -> u32
     requires { ⌜ Fitting setting × (at + setting .n ≤ length (now log)) ⌝ }
     ensures { λ r. ⌜ Opens setting at (Steps.minus (settingOf setting) (x .shares) (a .shares)) r (now (log .entry)) (now (log .exit)) ⌝ }
 {
@@ -22,7 +22,7 @@ fn open_difference(setting: Setting, at: usize, log: &mut [u32], x: Row, a: Row)
 }
 
 // c + a1·b + b1·a + a1·b1.
-fn beaver(setting: Setting, a1: u32, b1: u32, a: Row, b: Row, c: Row) -> Row
+pub fn beaver(setting: Setting, a1: u32, b1: u32, a: Row, b: Row, c: Row) -> Row
     requires { ⌜ Fitting setting ⌝ }
     ensures { λ r. ⌜ r .shares ≡ Steps.beaver (settingOf setting) a1 b1 (record { a = a .shares; b = b .shares; c = c .shares }) ⌝ }
 {
@@ -41,7 +41,7 @@ pub fn product(
     right: Row,
 ) -> Row
     requires { ⌜ Room (now s) (now log) setting at 1 ⌝ }
-    ensures { λ r. ⌜ Leaves (now (s .entry)) setting at 1 (Steps.product (settingOf setting) (left .shares) (right .shares)) (r .shares) (now (log .entry)) (now (log .exit)) ⌝ }
+    ensures { λ r. ⌜ StepLeaves (now (s .entry)) setting at 1 (Steps.product (settingOf setting) (left .shares) (right .shares)) (r .shares) (now (log .entry)) (now (log .exit)) ⌝ }
 {
     let n = setting.n;
     let i = at.triple;

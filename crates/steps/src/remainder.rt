@@ -29,7 +29,7 @@ pub struct Publics {
     pub step: u32,
 }
 
-fn public_numbers(p: u32, m: u32, c: u32) -> Publics
+pub fn public_numbers(p: u32, m: u32, c: u32) -> Publics
     requires { ⌜ Fields.Modulus p × (m < 30) × (2 ^ m < p) × (c < p) ⌝ }
     ensures { λ r. ⌜ r ≡ publics p m c ⌝ }
 {
@@ -47,7 +47,7 @@ fn public_numbers(p: u32, m: u32, c: u32) -> Publics
 }
 
 // "C mod 2^m + f·((C + p) mod 2^m − C mod 2^m) − r mod 2^m + 2^m·u".
-fn unmasked_row(setting: Setting, x: Publics, bits: &[u32], f: Row, u: Row) -> Row
+pub fn unmasked_row(setting: Setting, x: Publics, bits: &[u32], f: Row, u: Row) -> Row
     requires { ⌜ MaskBits setting (x .m) (now bits) ⌝ }
     ensures { λ r. ⌜ r .shares ≡ unmaskedBy setting x (Bytes.sevens (x .m) (now (bits .entry))) (f .shares) (u .shares) ⌝ }
 {
@@ -159,7 +159,7 @@ fn from_mask(
 }
 
 // "With X = (a + 2^(k−1)) modulo p": a + 2^(k−1).
-fn raised_row(setting: Setting, k: u32, a: Row) -> Row
+pub fn raised_row(setting: Setting, k: u32, a: Row) -> Row
     requires { ⌜ Fitting setting × (1 ≤ k) × (k ≤ 30) × (2 ^ k < setting .p) ⌝ }
     ensures { λ r. ⌜ r .shares ≡ Steps.plus (settingOf setting) (a .shares) (Steps.constant (settingOf setting) (2 ^ (k - 1))) ⌝ }
 {

@@ -3,7 +3,7 @@
 use native.Mathlib.Omega.{arith}
 use borrow.Author.Needs.{needs}
 use Rattle.model.specs.Entries.{encodeTests}
-use Rattle.model.proofs.Fields.{listed, fields}
+use Rattle.model.proofs.Fields.{below-four, fields}
 use Rattle.model.proofs.Trying.{trying, field-passed}
 use Rattle.field.proofs.Answers.{range-told}
 use Rattle.field.proofs.encode_number.Statement.{statement}
@@ -18,7 +18,7 @@ unfolding encodeTests
 returns-2 c = search (needs, trying)
 
 largest-k-requires : tie.Need-largest-k-requires
-largest-k-requires c κs = search (needs, trying, listed)
+largest-k-requires c κs = search (needs, trying, below-four)
 
 returns-3 : tie.Need-returns-3
 unfolding encodeTests

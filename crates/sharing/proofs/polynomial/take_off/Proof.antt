@@ -3,7 +3,7 @@
 use Prim.Native.Nat.{suc, _-_}
 use Rattle.algebra.proofs.Rows.{Filling, filling-start, filling-more, filling-end}
 use Rattle.algebra.specs.Ring.{sub, mul}
-use Rattle.model.proofs.Fields.{listed}
+use Rattle.model.proofs.Fields.{below-four}
 use Rattle.model.specs.Fields.{modulus, inverse}
 use borrow.Author.Needs.{needs}
 use lib.ListN.{getD}
@@ -23,7 +23,7 @@ loop-holds : tie.Need-loop-holds Inv-loop μ-loop
 loop-holds c = filling-start _ _
 
 inverse-requires : tie.Need-inverse-requires Inv-loop μ-loop
-inverse-requires c κs = search (needs, listed)
+inverse-requires c κs = search (needs, below-four)
 
 off : (c : tie.After-mul Inv-loop μ-loop) → let a = c .before .before .before .before .before .before .before .args in let l = c .before .before .before .before .before .loop in c .mul .result ≡ mul (modulus (a .field)) (sub (modulus (a .field)) (getD (a .t3 .shares) (l .j) 0) (a .c)) (inverse (modulus (a .field)) (suc (l .j)))
 off c = cc (add-one (c .before .before .before .before .before .loop .j))

@@ -4,7 +4,7 @@ use Prim.Native.Nat.{ℕ, suc, _+_, _-_, _*_, _/_, _%_, _≤_, _<_}
 use Rattle.algebra.proofs.Tests.{and-left, and-right, every, every-at}
 use Rattle.algebra.specs.Lists.{from}
 use Rattle.algebra.specs.Ring.{sub, mul}
-use Rattle.model.proofs.Fields.{listed}
+use Rattle.model.proofs.Fields.{below-four}
 use Rattle.model.proofs.Weights.{weight-lt}
 use Rattle.model.specs.Fields.{Modulus, modulus, inverse}
 use Rattle.model.specs.Sharing.{weight, ratio, reciprocal}
@@ -49,7 +49,7 @@ module _ (l : List ℕ) {p : ℕ} (e x : ℕ) (t : T (every 64 (weight-test l)))
   here =
       let q : suc (e - 1) ≡ e = omega arith in
       let r : suc (x - 1) ≡ x = omega arith in
-      rw (← (M .is), q, r) at (weight-entry l t (M .number) (e - 1) (x - 1) (listed (M .number) (M .in-use)) (omega arith) (omega arith))
+      rw (← (M .is), q, r) at (weight-entry l t (M .number) (e - 1) (x - 1) (below-four (M .number) (M .in-use)) (omega arith) (omega arith))
 
   binomial-fits : getD l place 0 ≤ p
   binomial-fits = omega (arith, ltb→lt (getD l place 0) 8 (and-left (ltb (getD l place 0) 8) _ here))

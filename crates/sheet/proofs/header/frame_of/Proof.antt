@@ -1,7 +1,7 @@
 -- `header::frame_of` meets its contract: the places fit, since the counts are within their limits.
 -- Assumes nothing.
 use Rattle.sheet.specs.Reading.{told}
-use Rattle.model.proofs.Fields.{listed}
+use Rattle.model.proofs.Fields.{below-four}
 use Rattle.model.proofs.Lengths.{Fitting, fitting}
 use Rattle.model.specs.Sheet.{maskBits}
 use Rattle.sheet.proofs.Headers.{frame-is}
@@ -39,7 +39,7 @@ frame-of-spec =
     tie.close
     (tie.spec
     (λ c. search needs)
-    (λ c κs. search (needs, listed))
+    (λ c κs. search (needs, below-four))
     (λ c. search needs)
     (λ c. search needs)
     add-input
@@ -51,6 +51,6 @@ frame-of-spec =
     mul-triple-3
     add-triple
     (λ c κs. search needs)
-    (λ c κs. search (needs, listed))
+    (λ c κs. search (needs, below-four))
     (λ c. search needs)
     (λ c. search (needs, frame-is)))

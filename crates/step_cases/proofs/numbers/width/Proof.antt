@@ -6,7 +6,7 @@ use borrow.Author.Needs.{needs}
 use lib.Pow.{pow-mono}
 use native.Mathlib.Omega.{arith}
 use Rattle.model.specs.Fields.{modulus, largestK, InUse}
-use Rattle.model.proofs.Fields.{fields, listed}
+use Rattle.model.proofs.Fields.{fields, below-four}
 use Rattle.step_cases.proofs.numbers.width.Statement.{statement}
 use Rattle.step_cases.proofs.numbers.width.Tie as tie
 
@@ -24,4 +24,4 @@ returns-2 c =
     within _ _ _ (c .before .before .before .before .pre .1) (omega (arith, c .before .before .word .ensures, c .before .largest-k .ensures))
 
 pub width-spec : {M : Type 1} → statement M
-width-spec = tie.close (tie.spec (λ c κs. search needs) (λ c κs. search (needs, listed)) returns returns-2)
+width-spec = tie.close (tie.spec (λ c κs. search needs) (λ c κs. search (needs, below-four)) returns returns-2)

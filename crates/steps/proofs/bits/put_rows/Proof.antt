@@ -1,7 +1,7 @@
 -- `bits::put_rows` meets its contract: after k turns the first k rows of the cells are the sheet's.
 -- Assumes nothing.
 use Prim.Native.Nat.{_-_}
-use Rattle.steps.proofs.Putting.{Putting, putting-start, putting-fits, putting-more, putting-end}
+use Rattle.steps.proofs.Putting.{Putting, putting-start, putting-fits, putting-more, putting-end, putting-past}
 use borrow.Author.Needs.{needs}
 use native.Mathlib.Omega.{arith}
 use Rattle.steps.proofs.bits.put_rows.Statement.{statement}
@@ -43,4 +43,4 @@ put-rows-spec =
     (λ c. search needs)
     loop-again
     (λ c. search needs)
-    (λ c. search (needs, putting-end)))
+    (λ c. search (needs, putting-end, putting-past)))

@@ -28,7 +28,7 @@ returns : tie.Need-returns
 returns c =
     let e = c .before .before in
     let x = e .before .before .before in
-    remainder-leaves _ _ _ (x .raised-row .ensures) (x .before .before .put-rows .ensures) (e .from-mask .ensures)
+    remainder-leaves _ _ _ (x .raised-row .ensures) (x .before .before .put-rows .ensures .0) (e .from-mask .ensures)
 
 pub remainder-spec : {M : Type 1} → statement M
 remainder-spec =
