@@ -27,7 +27,7 @@ flags [] = []
 flags (x ∷ xs) = cond x 1 0 ∷ flags xs
 
 -- what an answer puts into the three lent lists, of which the first of each pair is what stood there before: registers, marks, place and counts
-pub record Lists (a : Answer) (cells₀ cells₁ marks₀ marks₁ counts₀ counts₁ : List ℕ) : Type 0 where
+pub record Delivered (a : Answer) (cells₀ cells₁ marks₀ marks₁ counts₀ counts₁ : List ℕ) : Type 0 where
   pub registers : cells₁ ≡ lent (a .table .cells) cells₀
   pub marks : marks₁ ≡ lent (flags (a .table .spent .marks)) marks₀
   pub counts : counts₁ ≡ lent (a .place ∷ listed (countsOf (a .table .spent .counts))) counts₀
