@@ -4,12 +4,14 @@ use mathlib.Core.Path.{_≡_, _∙_}
 use mathlib.Core.List.{List, [], _∷_}
 use Prim.Native.Nat.{ℕ, suc, _+_, _*_, _≤_}
 use native.Mathlib.Omega.{arith}
-use lib.ListN.{length}
+use lib.ListN.{length, getD}
+use Rattle.algebra.specs.Ring.{add, mul}
+use Rattle.algebra.proofs.Rows.{row-at, row-ext, Filling, filling-end}
 use Rattle.algebra.specs.Lists.{none, one}
 use Rattle.model.specs.Bytes.{rowAt}
 use Rattle.model.specs.Sheet.{triplesFrom}
 use Rattle.model.specs.Deal as Paper
-use Rattle.model.specs.Steps.{Row, written, minus, nextTriple, beaver, byRows, product}
+use Rattle.model.specs.Steps.{Row, written, plus, minus, times, constant, nextTriple, beaver, byRows, product}
 use Rattle.model.proofs.Taking.{Seven, seven-minus}
 use Rattle.model.proofs.Written.{length-written}
 use Rattle.sharing.specs.Settings.{settingOf}
@@ -17,6 +19,16 @@ use Rattle.sharing.specs.declared.setting.Setting.{Setting}
 use Rattle.steps.specs.declared.places.Places.{Places}
 use Rattle.steps.specs.Promises.{Opens, StepLeaves}
 use Rattle.steps.proofs.Leaving.{log-then}
+
+-- share j of the row that is left
+abbrev pub shareLeft : ℕ → ℕ → ℕ → ℕ → Row → Row → Row → ℕ → ℕ
+shareLeft p a1 b1 both a b c j = add p (add p (add p (getD c j 0) (mul p a1 (getD b j 0))) (mul p b1 (getD a j 0))) both
+
+-- the loop that fills it is done
+pub beaver-end : (S : Paper.Setting) (a1 b1 : ℕ) {both j : ℕ} (a b c : Row) {l : Row} → both ≡ mul (S .p) a1 b1
+    → Filling (S .n) (shareLeft (S .p) a1 b1 both a b c) j l → S .n ≤ j → l ≡ beaver S a1 b1 (record { a = a; b = b; c = c })
+unfolding plus times constant
+beaver-end S a1 b1 a b c e F h = filling-end F h ∙ row-ext (S .n) _ _ (λ k l. rw e (simp row-at))
 
 -- an opened row is n numbers of the record
 pub one-opened : (S : Paper.Setting) (x : Row) → S .n ≤ 7 → Seven x → length (written S (x ∷ [])) ≡ S .n

@@ -21,14 +21,22 @@ pub fn open_difference(setting: Setting, at: usize, log: &mut [u32], x: Row, a: 
     opening::open_at(setting, at, log, rows::sub_rows(setting, x, a))
 }
 
-// c + a1·b + b1·a + a1·b1.
+// c + a1·b + b1·a + a1·b1, in one pass: every product of a comparison goes through here.
 pub fn beaver(setting: Setting, a1: u32, b1: u32, a: Row, b: Row, c: Row) -> Row
     requires { ⌜ Fitting setting ⌝ }
     ensures { λ r. ⌜ r .shares ≡ Steps.beaver (settingOf setting) a1 b1 (record { a = a .shares; b = b .shares; c = c .shares }) ⌝ }
 {
-    let x = rows::add_scaled(setting, c, a1, b);
-    let y = rows::add_scaled(setting, x, b1, a);
-    rows::add_public(setting, y, arithmetic::mul(setting.p, a1, b1))
+    let p = setting.p;
+    let both = arithmetic::mul(p, a1, b1);
+    let mut shares = [0u32; 7];
+    let mut j = 0;
+    while j < setting.n {
+        let x = arithmetic::add(p, c.shares[j], arithmetic::mul(p, a1, b.shares[j]));
+        let y = arithmetic::add(p, x, arithmetic::mul(p, b1, a.shares[j]));
+        shares[j] = arithmetic::add(p, y, both);
+        j += 1;
+    }
+    Row { shares }
 }
 
 // MUL: "takes the next triple, opens a1 = left − a, then b1 = right − b, leaves c + a1·b + b1·a + a1·b1".
