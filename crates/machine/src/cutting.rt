@@ -11,8 +11,8 @@ use steps::cut;
 use steps::cut::Cut;
 use steps::places::Places;
 
-// The row that a cut of register a leaves, of a table's cells.
-pub fn cut_register(
+// The row that a cut of register a leaves, of a table's cells, which are lent.
+pub fn cut_from(
     setting: Setting,
     at: Places,
     s: &[u8],

@@ -4,7 +4,7 @@ ghost use Rattle.script.specs.Meaning.{meant};
 ghost use Rattle.costs.specs.Costing.{countsOf};
 ghost use Rattle.machine.specs.Holding.{lent, Ready, Performs};
 ghost use Rattle.machine.specs.Answers.{Payable, Finishes};
-use crate::cutting::cut_register;
+use crate::cutting::cut_from;
 use crate::table::Table;
 use costs::cost::Cost;
 use script::command::Command;
@@ -27,31 +27,23 @@ impl Table {
             Command::Scale { d, a, v } => self.scale(setting, d, a, v),
             Command::Mul { d, a, b } => self.multiply(setting, at, s, log, d, a, b),
             Command::Mod { d, a, k, m } => {
-                let row = cut_register(setting, at, s, log, &self.cells[..], a, Cut::Mod { k, m });
+                let row = cut_from(setting, at, s, log, &self.cells[..], a, Cut::Mod { k, m });
                 self.put(d, row)
             }
             Command::Trunc { d, a, k, m } => {
-                let row = cut_register(
-                    setting,
-                    at,
-                    s,
-                    log,
-                    &self.cells[..],
-                    a,
-                    Cut::Trunc { k, m },
-                );
+                let row = cut_from(setting, at, s, log, &self.cells[..], a, Cut::Trunc { k, m });
                 self.put(d, row)
             }
             Command::Ltz { d, a, k } => {
-                let row = cut_register(setting, at, s, log, &self.cells[..], a, Cut::Ltz { k });
+                let row = cut_from(setting, at, s, log, &self.cells[..], a, Cut::Ltz { k });
                 self.put(d, row)
             }
             Command::Over { d, a, k, v } => {
-                let row = cut_register(setting, at, s, log, &self.cells[..], a, Cut::Over { k, v });
+                let row = cut_from(setting, at, s, log, &self.cells[..], a, Cut::Over { k, v });
                 self.put(d, row)
             }
             Command::Blocks { d, a, k, m } => {
-                let row = cut_register(
+                let row = cut_from(
                     setting,
                     at,
                     s,

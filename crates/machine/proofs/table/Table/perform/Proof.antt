@@ -68,40 +68,40 @@ multiply-requires c κs =
     let r = says K e in
     (has-room K e 1 (ready K e .triples) (ready K e .room), r .0, r .1 .0, r .1 .1 .0)
 
-cut-register-requires : tie.Need-cut-register-requires
-cut-register-requires c κs = cut-asks (known (c .before .before .before .before .before .before .before)) (c .before .before .before .before .before .c7 .given .1) _ _ (Mod _ _) refl (search needs)
+cut-from-requires : tie.Need-cut-from-requires
+cut-from-requires c κs = cut-asks (known (c .before .before .before .before .before .before .before)) (c .before .before .before .before .before .c7 .given .1) _ _ (Mod _ _) refl (search needs)
 
 put-requires : tie.Need-put-requires
 put-requires c κs =
     let call = c .before .before in
     cut-goes (known (call .before .before .before .before .before .before .before .before)) (call .before .before .before .before .before .before .c7 .given .1) _ _ (Mod _ _) refl
 
-cut-register-requires-2 : tie.Need-cut-register-requires-2
-cut-register-requires-2 c κs = cut-asks (known (c .before .before .before .before .before .before .before)) (c .before .before .before .before .before .c8 .given .1) _ _ (Trunc _ _) refl (search needs)
+cut-from-requires-2 : tie.Need-cut-from-requires-2
+cut-from-requires-2 c κs = cut-asks (known (c .before .before .before .before .before .before .before)) (c .before .before .before .before .before .c8 .given .1) _ _ (Trunc _ _) refl (search needs)
 
 put-requires-2 : tie.Need-put-requires-2
 put-requires-2 c κs =
     let call = c .before .before in
     cut-goes (known (call .before .before .before .before .before .before .before .before)) (call .before .before .before .before .before .before .c8 .given .1) _ _ (Trunc _ _) refl
 
-cut-register-requires-3 : tie.Need-cut-register-requires-3
-cut-register-requires-3 c κs = cut-asks (known (c .before .before .before .before .before .before .before)) (c .before .before .before .before .before .c9 .given .1) _ _ (Ltz _) refl (search needs)
+cut-from-requires-3 : tie.Need-cut-from-requires-3
+cut-from-requires-3 c κs = cut-asks (known (c .before .before .before .before .before .before .before)) (c .before .before .before .before .before .c9 .given .1) _ _ (Ltz _) refl (search needs)
 
 put-requires-3 : tie.Need-put-requires-3
 put-requires-3 c κs =
     let call = c .before .before in
     cut-goes (known (call .before .before .before .before .before .before .before .before)) (call .before .before .before .before .before .before .c9 .given .1) _ _ (Ltz _) refl
 
-cut-register-requires-4 : tie.Need-cut-register-requires-4
-cut-register-requires-4 c κs = cut-asks (known (c .before .before .before .before .before .before .before)) (c .before .before .before .before .before .c10 .given .1) _ _ (Over _ _) refl (search needs)
+cut-from-requires-4 : tie.Need-cut-from-requires-4
+cut-from-requires-4 c κs = cut-asks (known (c .before .before .before .before .before .before .before)) (c .before .before .before .before .before .c10 .given .1) _ _ (Over _ _) refl (search needs)
 
 put-requires-4 : tie.Need-put-requires-4
 put-requires-4 c κs =
     let call = c .before .before in
     cut-goes (known (call .before .before .before .before .before .before .before .before)) (call .before .before .before .before .before .before .c10 .given .1) _ _ (Over _ _) refl
 
-cut-register-requires-5 : tie.Need-cut-register-requires-5
-cut-register-requires-5 c κs = cut-asks (known (c .before .before .before .before .before .before .before)) (c .before .before .before .before .before .c11 .given .1) _ _ (Blocks _ _) refl (search needs)
+cut-from-requires-5 : tie.Need-cut-from-requires-5
+cut-from-requires-5 c κs = cut-asks (known (c .before .before .before .before .before .before .before)) (c .before .before .before .before .before .c11 .given .1) _ _ (Blocks _ _) refl (search needs)
 
 put-requires-5 : tie.Need-put-requires-5
 put-requires-5 c κs =
@@ -161,7 +161,7 @@ returns-7 c =
     let call = c .before .before .before in
     let K = known (call .before .before .before .before .before .before .before .before) in
     let e = call .before .before .before .before .before .before .c7 .given .1 in
-    let made = call .cut-register in
+    let made = call .cut-from in
     let seven : length (made .result .shares) ≡ 7 = search (needs, made .ok) in
     (c .put .ensures .1, cut-done K e _ _ (Mod _ _) refl seven (made .ensures) (c .put .ensures .0))
 
@@ -170,7 +170,7 @@ returns-8 c =
     let call = c .before .before .before in
     let K = known (call .before .before .before .before .before .before .before .before) in
     let e = call .before .before .before .before .before .before .c8 .given .1 in
-    let made = call .cut-register2 in
+    let made = call .cut-from2 in
     let seven : length (made .result .shares) ≡ 7 = search (needs, made .ok) in
     (c .put2 .ensures .1, cut-done K e _ _ (Trunc _ _) refl seven (made .ensures) (c .put2 .ensures .0))
 
@@ -179,7 +179,7 @@ returns-9 c =
     let call = c .before .before .before in
     let K = known (call .before .before .before .before .before .before .before .before) in
     let e = call .before .before .before .before .before .before .c9 .given .1 in
-    let made = call .cut-register3 in
+    let made = call .cut-from3 in
     let seven : length (made .result .shares) ≡ 7 = search (needs, made .ok) in
     (c .put3 .ensures .1, cut-done K e _ _ (Ltz _) refl seven (made .ensures) (c .put3 .ensures .0))
 
@@ -188,7 +188,7 @@ returns-10 c =
     let call = c .before .before .before in
     let K = known (call .before .before .before .before .before .before .before .before) in
     let e = call .before .before .before .before .before .before .c10 .given .1 in
-    let made = call .cut-register4 in
+    let made = call .cut-from4 in
     let seven : length (made .result .shares) ≡ 7 = search (needs, made .ok) in
     (c .put4 .ensures .1, cut-done K e _ _ (Over _ _) refl seven (made .ensures) (c .put4 .ensures .0))
 
@@ -197,7 +197,7 @@ returns-11 c =
     let call = c .before .before .before in
     let K = known (call .before .before .before .before .before .before .before .before) in
     let e = call .before .before .before .before .before .before .c11 .given .1 in
-    let made = call .cut-register5 in
+    let made = call .cut-from5 in
     let seven : length (made .result .shares) ≡ 7 = search (needs, made .ok) in
     (c .put5 .ensures .1, cut-done K e _ _ (Blocks _ _) refl seven (made .ensures) (c .put5 .ensures .0))
 
@@ -219,4 +219,4 @@ returns-13 c =
 pub perform-spec : {M : Type 1} → statement M
 perform-spec =
     tie.close
-    (tie.spec (λ c κs. search needs) places-requires (λ c. search needs) load-requires (λ c. search needs) fill-requires (λ c. search needs) add-requires (λ c. search needs) sub-requires (λ c. search needs) scale-requires (λ c. search needs) multiply-requires (λ c. search needs) cut-register-requires put-requires (λ c. search needs) cut-register-requires-2 put-requires-2 (λ c. search needs) cut-register-requires-3 put-requires-3 (λ c. search needs) cut-register-requires-4 put-requires-4 (λ c. search needs) cut-register-requires-5 put-requires-5 (λ c. search needs) reveal-requires (λ c. search needs) compare-requires returns returns-2 returns-3 returns-4 returns-5 (λ c. search needs) returns-6 (λ c. search needs) returns-7 (λ c. search needs) returns-8 (λ c. search needs) returns-9 (λ c. search needs) returns-10 (λ c. search needs) returns-11 (λ c. search needs) (λ c. search needs) returns-12 (λ c. search needs) returns-13)
+    (tie.spec (λ c κs. search needs) places-requires (λ c. search needs) load-requires (λ c. search needs) fill-requires (λ c. search needs) add-requires (λ c. search needs) sub-requires (λ c. search needs) scale-requires (λ c. search needs) multiply-requires (λ c. search needs) cut-from-requires put-requires (λ c. search needs) cut-from-requires-2 put-requires-2 (λ c. search needs) cut-from-requires-3 put-requires-3 (λ c. search needs) cut-from-requires-4 put-requires-4 (λ c. search needs) cut-from-requires-5 put-requires-5 (λ c. search needs) reveal-requires (λ c. search needs) compare-requires returns returns-2 returns-3 returns-4 returns-5 (λ c. search needs) returns-6 (λ c. search needs) returns-7 (λ c. search needs) returns-8 (λ c. search needs) returns-9 (λ c. search needs) returns-10 (λ c. search needs) returns-11 (λ c. search needs) (λ c. search needs) returns-12 (λ c. search needs) returns-13)

@@ -6,9 +6,7 @@ use Rattle.machine.proofs.table.Table.step.Statement.{statement}
 use Rattle.machine.proofs.table.Table.step.Tie as tie
 
 paid-requires : tie.Need-paid-requires
-paid-requires c κs =
-    let start = c .before .before .before .before .before .before .before .before .before .before in
-    (rw (c .before .before .before .before .perform .ensures .0) (start .pre .1 .summing), start .pre .1 .costs .target)
+paid-requires c κs = let same = c .before .before .before .before .perform .ensures .0 in search (needs, same)
 
 returns : tie.Need-returns
 returns c =
