@@ -19,9 +19,4 @@ read-back-requires c κs = (c .modulus .ensures .1, rw (c .modulus .ensures .0) 
 pub decode-spec : {M : Type 1} → statement M
 decode-spec =
     tie.close
-    (tie.spec
-    (λ c κs. search needs)
-    (λ c. search (needs, decode-refused))
-    modulus-requires
-    read-back-requires
-    (λ c. search (needs, decode-done)))
+    (tie.spec (λ c κs. search needs) (λ c. search (needs, decode-refused)) modulus-requires read-back-requires (λ c. search (needs, decode-done)))

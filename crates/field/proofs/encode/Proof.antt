@@ -28,9 +28,5 @@ code-requires c κs =
 pub encode-spec : {M : Type 1} → statement M
 encode-spec =
     tie.close
-    (tie.spec
-    (λ c κs. search needs)
-    (λ c. search (needs, encode-number, encode-refused))
-    modulus-requires
-    code-requires
+    (tie.spec (λ c κs. search needs) (λ c. search (needs, encode-number, encode-refused)) modulus-requires code-requires
     (λ c. search (needs, encode-number, encode-done)))

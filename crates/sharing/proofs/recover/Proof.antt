@@ -30,12 +30,5 @@ put-coefficients-requires c κs =
 pub recover-spec : {M : Type 1} → statement M
 recover-spec =
     tie.close
-    (tie.spec
-    (λ c κs. search needs)
-    (λ c. search (needs, refused-value, refused-left))
-    gather-requires
-    modulus-requires
-    secret-of-requires
-    put-coefficients-requires
-    (λ c. search needs)
-    (λ c. search (needs, recovered-value, recovered-left)))
+    (tie.spec (λ c κs. search needs) (λ c. search (needs, refused-value, refused-left)) gather-requires modulus-requires secret-of-requires
+    put-coefficients-requires (λ c. search needs) (λ c. search (needs, recovered-value, recovered-left)))

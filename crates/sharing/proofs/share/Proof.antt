@@ -23,11 +23,5 @@ put-shares-requires c κs = let F = fits (c .before .before .before) in (F .peop
 pub share-spec : {M : Type 1} → statement M
 share-spec =
     tie.close
-    (tie.spec
-    (λ c κs. search needs)
-    modulus-requires
-    share-row-requires
-    put-shares-requires
-    (λ c. search needs)
-    (λ c. search (needs, shared))
+    (tie.spec (λ c κs. search needs) modulus-requires share-row-requires put-shares-requires (λ c. search needs) (λ c. search (needs, shared))
     (λ c. search (needs, share-refused)))

@@ -14,13 +14,6 @@ mul-if1-3 c = let m = end-most (c .before .before .before .pre) in search needs
 add-if1 : tie.Need-add-if1
 add-if1 c = let m = end-most (c .before .before .before .before .pre) in search needs
 
-returns : tie.Need-returns
-unfolding lengthTests
-returns c = search (needs, trying, length-right)
-
-returns-2 : tie.Need-returns-2
-unfolding lengthTests
-returns-2 c = search (needs, trying, length-wrong)
-
 pub body-number-spec : {M : Type 1} → statement M
-body-number-spec = tie.close (tie.spec (λ c. search needs) (λ c. search needs) mul-if1-3 add-if1 (λ c κs. search needs) returns returns-2)
+unfolding lengthTests
+body-number-spec = tie.close (tie.spec (λ c. search needs) (λ c. search needs) mul-if1-3 add-if1 (λ c κs. search needs) (λ c. search (needs, trying, length-right)) (λ c. search (needs, trying, length-wrong)))

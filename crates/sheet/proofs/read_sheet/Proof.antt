@@ -20,11 +20,4 @@ returns-3 c = search (needs, nothing-refuses, whole-read)
 pub read-sheet-spec : {M : Type 1} → statement M
 read-sheet-spec =
     tie.close
-    (tie.spec
-    (λ c κs. search needs)
-    (λ c. search needs)
-    (λ c. search needs)
-    returns
-    body-number-requires
-    returns-2
-    returns-3)
+    (tie.spec (λ c κs. search needs) (λ c. search needs) (λ c. search needs) returns body-number-requires returns-2 returns-3)

@@ -27,28 +27,9 @@ good-masks-requires c κs = search (needs, setting-fits)
 good-triples-requires : tie.Need-good-triples-requires
 good-triples-requires c κs = search (needs, setting-fits)
 
-returns : tie.Need-returns
-unfolding rowTests
-returns c = search (needs, trying, rows-told) depth 9
-
-returns-2 : tie.Need-returns-2
-unfolding rowTests
-returns-2 c = search (needs, trying, rows-told) depth 9
-
-returns-3 : tie.Need-returns-3
-unfolding rowTests
-returns-3 c = search (needs, trying, rows-told) depth 9
-
-returns-4 : tie.Need-returns-4
-unfolding rowTests
-returns-4 c = search (needs, trying, rows-told) depth 9
-
-returns-5 : tie.Need-returns-5
-unfolding rowTests
-returns-5 c = search (needs, trying, rows-told) depth 9
-
 pub rows-number-spec : {M : Type 1} → statement M
+unfolding rowTests
 rows-number-spec =
     tie.close
     (tie.spec mul-count add-count (λ c. search needs) add-count-2 (λ c κs. search needs) all-sharings-requires good-masks-requires good-triples-requires
-    returns returns-2 returns-3 returns-4 returns-5)
+    (λ c. search (needs, trying, rows-told) depth 9) (λ c. search (needs, trying, rows-told) depth 9) (λ c. search (needs, trying, rows-told) depth 9) (λ c. search (needs, trying, rows-told) depth 9) (λ c. search (needs, trying, rows-told) depth 9))

@@ -21,14 +21,5 @@ opened-requires c κs =
 pub run-lines-spec : {M : Type 1} → statement M
 run-lines-spec =
     tie.close
-    (tie.spec
-    (λ c κs. search needs)
-    (λ c. search needs)
-    (λ c. search needs)
-    (λ c. search needs)
-    shared-slice-read-wide
-    (λ c κs. search needs)
-    (λ c κs. search needs)
-    opened-requires
-    (λ c κs. search needs)
-    (λ c. search needs))
+    (tie.spec (λ c κs. search needs) (λ c. search needs) (λ c. search needs) (λ c. search needs) shared-slice-read-wide (λ c κs. search needs)
+    (λ c κs. search needs) opened-requires (λ c κs. search needs) (λ c. search needs))

@@ -128,10 +128,9 @@ returns-13 c = rw (c .before .before .c13 .given .1) (c .comparing .ensures)
 pub cost-of-spec : {M : Type 1} → statement M
 cost-of-spec =
     tie.close
-    (tie.spec (λ c. search needs) (λ c κs. search needs) on-none-requires (λ c. search needs) (λ c κs. search needs) on-none-requires-2
-    (λ c. search needs) (λ c κs. search needs) on-two-requires (λ c. search needs) (λ c κs. search needs) on-two-requires-2 (λ c. search needs)
-    (λ c κs. search needs) on-one-requires (λ c. search needs) (λ c κs. search needs) on-two-requires-3 (λ c. search needs) of-mask-requires
-    on-one-requires-2 (λ c. search needs) of-mask-requires-2 on-one-requires-3 (λ c. search needs) sub-of-mask of-mask-requires-3 on-one-requires-4
-    (λ c. search needs) sub-of-mask-2 of-mask-requires-4 on-one-requires-5 (λ c. search needs) of-mask-requires-5 on-one-requires-6 (λ c. search needs)
-    revealing-requires (λ c. search needs) comparing-requires returns returns-2 returns-3 returns-4 returns-5 returns-6 returns-7 returns-8 returns-9
-    returns-10 returns-11 returns-12 returns-13)
+    (tie.spec (λ c. search needs) (λ c κs. search needs) on-none-requires (λ c. search needs) (λ c κs. search needs) on-none-requires-2 (λ c. search needs)
+    (λ c κs. search needs) on-two-requires (λ c. search needs) (λ c κs. search needs) on-two-requires-2 (λ c. search needs) (λ c κs. search needs)
+    on-one-requires (λ c. search needs) (λ c κs. search needs) on-two-requires-3 (λ c. search needs) of-mask-requires on-one-requires-2 (λ c. search needs)
+    of-mask-requires-2 on-one-requires-3 (λ c. search needs) sub-of-mask of-mask-requires-3 on-one-requires-4 (λ c. search needs) sub-of-mask-2
+    of-mask-requires-4 on-one-requires-5 (λ c. search needs) of-mask-requires-5 on-one-requires-6 (λ c. search needs) revealing-requires (λ c. search needs)
+    comparing-requires returns returns-2 returns-3 returns-4 returns-5 returns-6 returns-7 returns-8 returns-9 returns-10 returns-11 returns-12 returns-13)

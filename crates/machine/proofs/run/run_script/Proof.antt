@@ -41,24 +41,6 @@ loop-again c = search goes-next
 pub run-script-spec : {M : Type 1} → statement M
 run-script-spec =
     tie.close
-    (tie.spec
-    Inv-loop
-    μ-loop
-    (λ c κs. search needs)
-    (λ c κs. search needs)
-    loop-holds
-    (λ c κs. search needs)
-    (λ c. search needs)
-    (λ c. search needs)
-    (λ c κs. search needs)
-    (λ c. search needs)
-    (λ c. search needs)
-    returns
-    cost-of-requires
-    check-requires
-    (λ c. search needs)
-    (λ c. search needs)
-    returns-2
-    step-requires
-    loop-less
-    loop-again)
+    (tie.spec Inv-loop μ-loop (λ c κs. search needs) (λ c κs. search needs) loop-holds (λ c κs. search needs) (λ c. search needs) (λ c. search needs)
+    (λ c κs. search needs) (λ c. search needs) (λ c. search needs) returns cost-of-requires check-requires (λ c. search needs) (λ c. search needs) returns-2
+    step-requires loop-less loop-again)

@@ -17,15 +17,5 @@ returns-2 c = search answers-stop
 pub run-sheet-spec : {M : Type 1} → statement M
 run-sheet-spec =
     tie.close
-    (tie.spec
-    (λ c. search needs)
-    (λ c. search needs)
-    (λ c. search needs)
-    (λ c. search needs)
-    (λ c κs. search needs)
-    (λ c κs. search needs)
-    returns
-    run-script-requires
-    (λ c. search needs)
-    (λ c. search needs)
-    returns-2)
+    (tie.spec (λ c. search needs) (λ c. search needs) (λ c. search needs) (λ c. search needs) (λ c κs. search needs) (λ c κs. search needs) returns
+    run-script-requires (λ c. search needs) (λ c. search needs) returns-2)

@@ -9,13 +9,6 @@ use Rattle.script.proofs.ranges.bits_in.Tie as tie
 pub bits-in-spec : {M : Type 1} → statement M
 bits-in-spec =
     tie.close
-    (tie.spec
-    (λ c. one-fails _ (λ h. omega arith))
-    (λ c. one-fails _ (λ h. omega arith))
-    (λ c. one-fails _ (λ h. omega arith))
-    (λ c. one-fails _ (λ h. omega arith))
-    (λ c. search needs)
-    (λ c. one-fails _ (λ h. omega arith))
-    (λ c κs. search needs)
-    (λ c. one-fails _ (λ h. omega arith))
+    (tie.spec (λ c. one-fails _ (λ h. omega arith)) (λ c. one-fails _ (λ h. omega arith)) (λ c. one-fails _ (λ h. omega arith))
+    (λ c. one-fails _ (λ h. omega arith)) (λ c. search needs) (λ c. one-fails _ (λ h. omega arith)) (λ c κs. search needs) (λ c. one-fails _ (λ h. omega arith))
     (λ c. all-hold _ (search needs)))

@@ -18,16 +18,5 @@ abbrev μ-loop : tie.MeasureT-loop
 pub add-public-spec : {M : Type 1} → statement M
 add-public-spec =
     tie.close
-    (tie.spec
-    Inv-loop
-    μ-loop
-    (λ c. filling-start _ _)
-    (λ c. search needs)
-    (λ c. search needs)
-    (λ c κs. search needs)
-    (λ c. search needs)
-    (λ c. search needs)
-    (λ c. search needs)
-    (λ c. search needs)
-    (λ c. search (needs, filling-more))
-    (λ c. search (needs, public-end)))
+    (tie.spec Inv-loop μ-loop (λ c. filling-start _ _) (λ c. search needs) (λ c. search needs) (λ c κs. search needs) (λ c. search needs) (λ c. search needs)
+    (λ c. search needs) (λ c. search needs) (λ c. search (needs, filling-more)) (λ c. search (needs, public-end)))

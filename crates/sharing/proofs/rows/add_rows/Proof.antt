@@ -22,18 +22,5 @@ returns c = search (needs, filling-end)
 pub add-rows-spec : {M : Type 1} → statement M
 add-rows-spec =
     tie.close
-    (tie.spec
-    Inv-loop
-    μ-loop
-    (λ c. filling-start _ _)
-    (λ c. search needs)
-    (λ c. search needs)
-    (λ c. search needs)
-    (λ c. search needs)
-    (λ c κs. search needs)
-    (λ c. search needs)
-    (λ c. search needs)
-    (λ c. search needs)
-    (λ c. search needs)
-    (λ c. search (needs, filling-more))
-    returns)
+    (tie.spec Inv-loop μ-loop (λ c. filling-start _ _) (λ c. search needs) (λ c. search needs) (λ c. search needs) (λ c. search needs) (λ c κs. search needs)
+    (λ c. search needs) (λ c. search needs) (λ c. search needs) (λ c. search needs) (λ c. search (needs, filling-more)) returns)

@@ -21,19 +21,5 @@ loop-again c = let e = rw (c .before .before .mul .ensures .0) at (c .add .ensur
 pub add-scaled-spec : {M : Type 1} → statement M
 add-scaled-spec =
     tie.close
-    (tie.spec
-    Inv-loop
-    μ-loop
-    (λ c. filling-start _ _)
-    (λ c. search needs)
-    (λ c. search needs)
-    (λ c κs. search needs)
-    (λ c. search needs)
-    (λ c. search needs)
-    (λ c κs. search needs)
-    (λ c. search needs)
-    (λ c. search needs)
-    (λ c. search needs)
-    (λ c. search needs)
-    loop-again
-    (λ c. search (needs, scaled-end)))
+    (tie.spec Inv-loop μ-loop (λ c. filling-start _ _) (λ c. search needs) (λ c. search needs) (λ c κs. search needs) (λ c. search needs) (λ c. search needs)
+    (λ c κs. search needs) (λ c. search needs) (λ c. search needs) (λ c. search needs) (λ c. search needs) loop-again (λ c. search (needs, scaled-end)))

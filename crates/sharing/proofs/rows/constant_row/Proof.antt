@@ -20,13 +20,5 @@ returns c = search (needs, filling-end)
 pub constant-row-spec : {M : Type 1} → statement M
 constant-row-spec =
     tie.close
-    (tie.spec
-    Inv-loop
-    μ-loop
-    (λ c. filling-start _ _)
-    (λ c. search needs)
-    (λ c. search needs)
-    (λ c. search needs)
-    (λ c. search needs)
-    (λ c. search (needs, filling-more))
-    returns)
+    (tie.spec Inv-loop μ-loop (λ c. filling-start _ _) (λ c. search needs) (λ c. search needs) (λ c. search needs) (λ c. search needs)
+    (λ c. search (needs, filling-more)) returns)

@@ -30,17 +30,5 @@ returns c = let h : length (c .before .before .args .t3 .shares) ≡ 7 = search 
 pub put-shares-spec : {M : Type 1} → statement M
 put-shares-spec =
     tie.close
-    (tie.spec
-    Inv-loop
-    μ-loop
-    (λ c. writing-at-start _ _ _ _)
-    (λ c. search needs)
-    (λ c. search needs)
-    (λ c. search needs)
-    (λ c. search needs)
-    slice-write-list
-    (λ c. search needs)
-    (λ c. search needs)
-    loop-again
-    same-length
-    returns)
+    (tie.spec Inv-loop μ-loop (λ c. writing-at-start _ _ _ _) (λ c. search needs) (λ c. search needs) (λ c. search needs) (λ c. search needs) slice-write-list
+    (λ c. search needs) (λ c. search needs) loop-again same-length returns)

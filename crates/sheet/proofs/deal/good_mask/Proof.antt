@@ -40,19 +40,5 @@ returns-2 c = spelling-end (c .before .loop .inv) (omega arith)
 pub good-mask-spec : {M : Type 1} → statement M
 good-mask-spec =
     tie.close
-    (tie.spec
-    Inv-loop
-    μ-loop
-    (λ c. spelling-start)
-    read-row-requires
-    (λ c κs. search needs)
-    returns
-    mul-v
-    add-v
-    mul-power
-    (λ c. search needs)
-    add-from
-    (λ c. search needs)
-    (λ c. search needs)
-    loop-again
-    returns-2)
+    (tie.spec Inv-loop μ-loop (λ c. spelling-start) read-row-requires (λ c κs. search needs) returns mul-v add-v mul-power (λ c. search needs) add-from
+    (λ c. search needs) (λ c. search needs) loop-again returns-2)

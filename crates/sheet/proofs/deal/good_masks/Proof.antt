@@ -41,16 +41,5 @@ returns-2 c = testing-end (masks-run _ _ _) (c .before .loop .inv) (omega arith)
 pub good-masks-spec : {M : Type 1} → statement M
 good-masks-spec =
     tie.close
-    (tie.spec
-    Inv-loop
-    μ-loop
-    (λ c. search needs)
-    mul-size-2
-    (λ c. testing-start)
-    good-mask-requires
-    add-from
-    (λ c. search needs)
-    (λ c. search needs)
-    loop-again
-    returns
-    returns-2)
+    (tie.spec Inv-loop μ-loop (λ c. search needs) mul-size-2 (λ c. testing-start) good-mask-requires add-from (λ c. search needs) (λ c. search needs) loop-again
+    returns returns-2)

@@ -34,16 +34,5 @@ returns-2 c = testing-end (triples-run _ _) (c .before .loop .inv) (omega arith)
 pub good-triples-spec : {M : Type 1} → statement M
 good-triples-spec =
     tie.close
-    (tie.spec
-    Inv-loop
-    μ-loop
-    (λ c. search needs)
-    (λ c. search needs)
-    (λ c. testing-start)
-    good-triple-requires
-    add-from
-    (λ c. search needs)
-    (λ c. search needs)
-    loop-again
-    returns
-    returns-2)
+    (tie.spec Inv-loop μ-loop (λ c. search needs) (λ c. search needs) (λ c. testing-start) good-triple-requires add-from (λ c. search needs) (λ c. search needs)
+    loop-again returns returns-2)

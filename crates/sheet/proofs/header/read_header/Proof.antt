@@ -14,11 +14,5 @@ read-numbers-requires c κs = search (needs, header-long)
 pub read-header-spec : {M : Type 1} → statement M
 read-header-spec =
     tie.close
-    (tie.spec
-    (λ c κs. search needs)
-    (λ c. search (needs, trying))
-    read-numbers-requires
-    (λ c κs. search needs)
-    (λ c κs. search (needs, header-permitted))
-    (λ c. search (needs, within-limits, headed-read))
-    (λ c. search (needs, over-limits)))
+    (tie.spec (λ c κs. search needs) (λ c. search (needs, trying)) read-numbers-requires (λ c κs. search needs) (λ c κs. search (needs, header-permitted))
+    (λ c. search (needs, within-limits, headed-read)) (λ c. search (needs, over-limits)))

@@ -9,8 +9,5 @@ use Rattle.sheet.proofs.header.within_limits.Tie as tie
 pub within-limits-spec : {M : Type 1} → statement M
 within-limits-spec =
     tie.close
-    (tie.spec
-    (λ c. search (needs, inputs-over))
-    (λ c. search (needs, masks-over))
-    (λ c. search (needs, triples-over))
+    (tie.spec (λ c. search (needs, inputs-over)) (λ c. search (needs, masks-over)) (λ c. search (needs, triples-over))
     (λ c. script-decides _ (omega arith) (omega arith) (omega arith)))

@@ -20,12 +20,5 @@ run-low-requires c κs =
 pub run-cut-spec : {M : Type 1} → statement M
 run-cut-spec =
     tie.close
-    (tie.spec
-    (λ c κs. search needs)
-    (λ c. search needs)
-    (λ c. search needs)
-    (λ c. search needs)
-    (λ c. search needs)
-    (λ c. search needs)
-    run-low-requires
+    (tie.spec (λ c κs. search needs) (λ c. search needs) (λ c. search needs) (λ c. search needs) (λ c. search needs) (λ c. search needs) run-low-requires
     (λ c. search needs))

@@ -30,17 +30,5 @@ loop-again c =
 pub put-rows-spec : {M : Type 1} → statement M
 put-rows-spec =
     tie.close
-    (tie.spec
-    Inv-loop
-    μ-loop
-    (λ c. putting-start)
-    (λ c. search needs)
-    read-row-requires
-    (λ c κs. search needs)
-    (λ c. search needs)
-    add-from
-    (λ c. search needs)
-    (λ c. search needs)
-    loop-again
-    (λ c. search needs)
-    (λ c. search (needs, putting-end, putting-past)))
+    (tie.spec Inv-loop μ-loop (λ c. putting-start) (λ c. search needs) read-row-requires (λ c κs. search needs) (λ c. search needs) add-from (λ c. search needs)
+    (λ c. search needs) loop-again (λ c. search needs) (λ c. search (needs, putting-end, putting-past)))

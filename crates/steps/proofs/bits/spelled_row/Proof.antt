@@ -15,14 +15,5 @@ abbrev μ-loop : tie.MeasureT-loop
 pub spelled-row-spec : {M : Type 1} → statement M
 spelled-row-spec =
     tie.close
-    (tie.spec
-    Inv-loop
-    μ-loop
-    (λ c κs. search needs)
-    (λ c. search (needs, spelling-start))
-    (λ c. search needs)
-    (λ c κs. search needs)
-    (λ c κs. search needs)
-    (λ c. search needs)
-    (λ c. search (needs, spelling-more))
-    (λ c. search (needs, spelling-end)))
+    (tie.spec Inv-loop μ-loop (λ c κs. search needs) (λ c. search (needs, spelling-start)) (λ c. search needs) (λ c κs. search needs) (λ c κs. search needs)
+    (λ c. search needs) (λ c. search (needs, spelling-more)) (λ c. search (needs, spelling-end)))

@@ -36,18 +36,5 @@ loop-again c =
 pub comparison-spec : {M : Type 1} → statement M
 comparison-spec =
     tie.close
-    (tie.spec
-    Inv-loop
-    μ-loop
-    (λ c κs. search needs)
-    (λ c κs. search needs)
-    (λ c. search (needs, comparing-start))
-    (λ c κs. search needs)
-    product-requires
-    (λ c κs. search needs)
-    past-requires
-    add-k
-    (λ c. search needs)
-    loop-again
-    (λ c. search needs)
-    (λ c. search (needs, comparing-end)))
+    (tie.spec Inv-loop μ-loop (λ c κs. search needs) (λ c κs. search needs) (λ c. search (needs, comparing-start)) (λ c κs. search needs) product-requires
+    (λ c κs. search needs) past-requires add-k (λ c. search needs) loop-again (λ c. search needs) (λ c. search (needs, comparing-end)))

@@ -18,11 +18,4 @@ returns c =
 pub cut-row-spec : {M : Type 1} → statement M
 cut-row-spec =
     tie.close
-    (tie.spec
-    (λ c κs. search needs)
-    (λ c κs. search needs)
-    (λ c κs. search needs)
-    remainder-requires
-    (λ c κs. search needs)
-    (λ c. search needs)
-    returns)
+    (tie.spec (λ c κs. search needs) (λ c κs. search needs) (λ c κs. search needs) remainder-requires (λ c κs. search needs) (λ c. search needs) returns)

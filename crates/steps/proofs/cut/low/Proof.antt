@@ -13,16 +13,5 @@ sub-result-2 c = rw (c .before .c4 .given .1) at (c .before .before .before .pre
 pub low-spec : {M : Type 1} → statement M
 low-spec =
     tie.close
-    (tie.spec
-    (λ c. search needs)
-    (λ c. search needs)
-    (λ c. search needs)
-    sub-result
-    (λ c. search needs)
-    sub-result-2
-    (λ c. search needs)
-    (λ c. search needs)
-    (λ c. search needs)
-    (λ c. cc)
-    (λ c. cc)
-    (λ c. search needs))
+    (tie.spec (λ c. search needs) (λ c. search needs) (λ c. search needs) sub-result (λ c. search needs) sub-result-2 (λ c. search needs) (λ c. search needs)
+    (λ c. search needs) (λ c. cc) (λ c. cc) (λ c. search needs))

@@ -7,8 +7,4 @@ use Rattle.steps.proofs.cut.quotient_row.Tie as tie
 pub quotient-row-spec : {M : Type 1} → statement M
 quotient-row-spec =
     tie.close
-    (tie.spec
-    (λ c κs. search needs)
-    (λ c κs. search needs)
-    (λ c κs. search needs)
-    (λ c. cc))
+    (tie.spec (λ c κs. search needs) (λ c κs. search needs) (λ c κs. search needs) (λ c. cc))

@@ -21,8 +21,4 @@ opens S at x log e b l = record { value-is = e; below = b; log-is = l ∙ rw app
 pub open-row-spec : {M : Type 1} → statement M
 open-row-spec =
     tie.close
-    (tie.spec
-    (λ c κs. search needs)
-    (λ c κs. search needs)
-    (λ c. search needs)
-    (λ c. search (needs, opens)))
+    (tie.spec (λ c κs. search needs) (λ c κs. search needs) (λ c. search needs) (λ c. search (needs, opens)))

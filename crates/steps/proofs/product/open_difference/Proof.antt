@@ -10,8 +10,4 @@ returns c = rw (c .before .before .before .sub-rows .ensures) at (c .before .bef
 pub open-difference-spec : {M : Type 1} → statement M
 open-difference-spec =
     tie.close
-    (tie.spec
-    (λ c κs. search needs)
-    (λ c κs. search needs)
-    (λ c. search needs)
-    returns)
+    (tie.spec (λ c κs. search needs) (λ c κs. search needs) (λ c. search needs) returns)

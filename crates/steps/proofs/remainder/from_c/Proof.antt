@@ -34,11 +34,4 @@ returns c =
 pub from-c-spec : {M : Type 1} → statement M
 from-c-spec =
     tie.close
-    (tie.spec
-    (λ c κs. search needs)
-    comparison-requires
-    (λ c. search needs)
-    past-requires
-    from-f-requires
-    (λ c. search needs)
-    returns)
+    (tie.spec (λ c κs. search needs) comparison-requires (λ c. search needs) past-requires from-f-requires (λ c. search needs) returns)

@@ -26,10 +26,4 @@ returns c =
 pub from-f-spec : {M : Type 1} → statement M
 from-f-spec =
     tie.close
-    (tie.spec
-    comparison-requires
-    (λ c. search needs)
-    (λ c κs. search needs)
-    from-u0-requires
-    (λ c. search needs)
-    returns)
+    (tie.spec comparison-requires (λ c. search needs) (λ c κs. search needs) from-u0-requires (λ c. search needs) returns)

@@ -24,11 +24,4 @@ returns c =
 pub from-mask-spec : {M : Type 1} → statement M
 from-mask-spec =
     tie.close
-    (tie.spec
-    (λ c κs. search needs)
-    (λ c κs. search needs)
-    (λ c κs. search needs)
-    (λ c κs. search needs)
-    from-c-requires
-    (λ c. search needs)
-    returns)
+    (tie.spec (λ c κs. search needs) (λ c κs. search needs) (λ c κs. search needs) (λ c κs. search needs) from-c-requires (λ c. search needs) returns)

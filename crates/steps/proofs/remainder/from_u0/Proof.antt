@@ -26,10 +26,4 @@ returns c =
 pub from-u0-spec : {M : Type 1} → statement M
 from-u0-spec =
     tie.close
-    (tie.spec
-    comparison-requires
-    (λ c. search needs)
-    (λ c κs. search needs)
-    from-u1-requires
-    (λ c. search needs)
-    returns)
+    (tie.spec comparison-requires (λ c. search needs) (λ c κs. search needs) from-u1-requires (λ c. search needs) returns)

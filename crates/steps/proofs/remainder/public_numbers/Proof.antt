@@ -13,10 +13,4 @@ returns c =
 pub public-numbers-spec : {M : Type 1} → statement M
 public-numbers-spec =
     tie.close
-    (tie.spec
-    (λ c κs. search needs)
-    (λ c. search (needs, power-above))
-    (λ c. search needs)
-    (λ c. search (needs, power-above))
-    (λ c κs. search needs)
-    returns)
+    (tie.spec (λ c κs. search needs) (λ c. search (needs, power-above)) (λ c. search needs) (λ c. search (needs, power-above)) (λ c κs. search needs) returns)

@@ -16,8 +16,4 @@ returns c =
 pub raised-row-spec : {M : Type 1} → statement M
 raised-row-spec =
     tie.close
-    (tie.spec
-    (λ c. search needs)
-    (λ c κs. search needs)
-    (λ c κs. search needs)
-    returns)
+    (tie.spec (λ c. search needs) (λ c κs. search needs) (λ c κs. search needs) returns)

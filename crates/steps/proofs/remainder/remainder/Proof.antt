@@ -33,11 +33,4 @@ returns c =
 pub remainder-spec : {M : Type 1} → statement M
 remainder-spec =
     tie.close
-    (tie.spec
-    (λ c. search needs)
-    (λ c κs. search needs)
-    (λ c κs. search needs)
-    (λ c. search needs)
-    from-mask-requires
-    (λ c. search needs)
-    returns)
+    (tie.spec (λ c. search needs) (λ c κs. search needs) (λ c κs. search needs) (λ c. search needs) from-mask-requires (λ c. search needs) returns)

@@ -7,10 +7,4 @@ use Rattle.steps.proofs.remainder.unmasked_row.Tie as tie
 pub unmasked-row-spec : {M : Type 1} → statement M
 unmasked-row-spec =
     tie.close
-    (tie.spec
-    (λ c κs. search needs)
-    (λ c κs. search needs)
-    (λ c κs. search needs)
-    (λ c κs. search needs)
-    (λ c κs. search needs)
-    (λ c. cc))
+    (tie.spec (λ c κs. search needs) (λ c κs. search needs) (λ c κs. search needs) (λ c κs. search needs) (λ c κs. search needs) (λ c. cc))
