@@ -1,4 +1,4 @@
-// The script machine: the table of registers, a method for each command, and the run of a sheet.
+// The script machine: the table of registers, what each command does to it, and the run of a sheet.
 pub mod cutting;
 pub mod linear;
 pub mod opening;

@@ -12,7 +12,7 @@ use sheet::frame::Frame;
 use steps::cut::Cut;
 
 impl Table {
-    // The command's method. What was spent before it gives the next places of mask, triple and record.
+    // The command performed. What was spent before it gives the next places of mask, triple and record.
     fn perform(self, f: Frame, s: &[u8], log: &mut [u32], revealed: &mut [u32], c: Command) -> Table
         requires { ⌜ Ready (now s) f (countsOf (self .spent .counts)) (meant c) (lent (self .cells) (now log) (now revealed)) ⌝ }
         ensures { λ r. ⌜ (r .spent ≡ self .spent) × Performs (now (s .entry)) f (countsOf (self .spent .counts)) (meant c) (lent (self .cells) (now (log .entry)) (now (revealed .entry))) (lent (r .cells) (now (log .exit)) (now (revealed .exit))) ⌝ }

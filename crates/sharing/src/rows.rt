@@ -141,7 +141,7 @@ pub fn constant_row(setting: Setting, v: u32) -> Row
     Row { shares }
 }
 
-// a + c·b, in one pass: what products and spelled numbers are made of.
+// a + c·b, in one pass: what spelled numbers and MOD's last line are made of.
 pub fn add_scaled(setting: Setting, a: Row, c: u32, b: Row) -> Row
     requires { ⌜ Fitting setting ⌝ }
     ensures { λ r. ⌜ r .shares ≡ Steps.plus (settingOf setting) (a .shares) (Steps.times (settingOf setting) c (b .shares)) ⌝ }
