@@ -25,6 +25,8 @@ pub mod Exactness
 pub mod Refusals
 pub mod Secrecy
 pub mod RealRuns
+pub mod Calls
+pub mod CallLists
 pub mod CaseForms
 pub mod SheetCases
 pub mod ScriptCases

@@ -1,0 +1,74 @@
+-- The request "Calls from the exchange's own list", over the RFC's grammar and without a reader: that the reader of Calls.antt finds what the grammar
+-- derives and nothing else, and which calls and which number every list has.
+-- Assumes nothing.
+use mathlib.Core.Path.{_≡_}
+use mathlib.Core.Logic.{_↔_, _≢_}
+use mathlib.Core.List.{List, [], _∷_}
+use Prim.Native.Nat.{ℕ, _+_, _-_, _≤_}
+use lib.ListN.{length, drop}
+use Rattle.algebra.specs.Lists.{All, onto}
+use Rattle.model.specs.Calls.{CRLF, Derives, found, readLine, spelt, lineAt, lineNumber, Imported, imported}
+
+-- The reader finds fields and a rest exactly where the grammar derives them, and no text has two readings.
+pub record Reads : Type 0 where
+  pub exact : (text rest : List ℕ) (fs : List (List ℕ)) → (readLine text ≡ found fs rest) ↔ Derives text fs rest
+  pub one-reading : (text rest rest′ : List ℕ) (fs fs′ : List (List ℕ)) → Derives text fs rest → Derives text fs′ rest′ → (fs ≡ fs′) × (rest ≡ rest′)
+
+-- "four fields (line name, dialled, answered, ended)": the text begins with a line that has these, before rest
+abbrev pub FourFields : List ℕ → (name dialled answered ended rest : List ℕ) → Type 0
+FourFields text name dialled answered ended rest = Derives text (name ∷ dialled ∷ answered ∷ ended ∷ []) rest
+
+-- "31 the line breaks RFC 4180 or has not four fields": no derivation with four fields
+abbrev pub NoLine : List ℕ → Type 0
+NoLine text = (name dialled answered ended rest : List ℕ) → FourFields text name dialled answered ended rest → ⊥
+
+-- "A time is one to seven digits": the text s, and the number that its digits spell
+pub record Spells (s : List ℕ) (x : ℕ) : Type 0 where
+  pub one : 1 ≤ length s
+  pub seven : length s ≤ 7
+  pub digits : All (λ b. (48 ≤ b) × (b ≤ 57)) s
+  pub number : x ≡ spelt 0 s
+
+-- "ended minus answered, or 0 for no answer": a call with these fields is good and lasted c seconds
+pub data Lasted : (dialled answered ended : List ℕ) → ℕ → Type 0 where
+  picked-up : {dialled answered ended : List ℕ} {x y z c : ℕ} → Spells dialled x → Spells answered y → Spells ended z → x ≤ y → y + c ≡ z
+      → Lasted dialled answered ended c
+  nobody : {dialled ended : List ℕ} {x z : ℕ} → Spells dialled x → Spells ended z → x ≤ z → Lasted dialled [] ended 0
+
+-- "lines are taken in turn": the text begins with lines of good calls that lasted so long, and left is the text after these. "The last line break
+-- may be missing"
+pub data Lines : List ℕ → List ℕ → List ℕ → Type 0 where
+  no-line : {text : List ℕ} → Lines text [] text
+  line : {text name dialled answered ended rest seconds left : List ℕ} {c : ℕ} → FourFields text name dialled answered ended rest → Lasted dialled answered ended c
+      → Lines (drop (length CRLF) rest) seconds left → Lines text (c ∷ seconds) left
+
+-- the number of a list whose good lines were taken, by the text that is left and the room in the buffer
+pub data Answer (room : ℕ) (left : List ℕ) : ℕ → Type 0 where
+  -- "0 when done"
+  done : left ≡ [] → Answer room left 0
+  -- "31 the line breaks RFC 4180 or has not four fields"
+  no-record : left ≢ [] → NoLine left → Answer room left 31
+  -- "32 a time is malformed, answered comes before dialled, or ended before answered (before dialled if unanswered)"
+  bad-times : {name dialled answered ended rest : List ℕ} → FourFields left name dialled answered ended rest
+      → ((c : ℕ) → Lasted dialled answered ended c → ⊥) → Answer room left 32
+  -- "33 the buffer is full"
+  full : {name dialled answered ended rest : List ℕ} {c : ℕ} → FourFields left name dialled answered ended rest → Lasted dialled answered ended c → room ≡ 0
+      → Answer room left 33
+
+-- what an import answers and leaves
+pub record Imports (list out : List ℕ) (x : Imported) : Type 0 where
+  pub seconds : List ℕ
+  pub left : List ℕ
+  pub lines : Lines list seconds left
+  pub number : Answer (length out - length seconds) left (x .number)
+  pub calls : x .calls ≡ length seconds
+  pub fits : length seconds ≤ length out
+  -- "the rest of the buffer is left"
+  pub out-is : x .out ≡ onto seconds out
+
+-- for every list and every buffer
+pub record CallLists : Type 0 where
+  pub reads : Reads
+  -- 31 is said exactly where no derivation with four fields exists, whatever the buffer
+  pub refused : (room : ℕ) (text : List ℕ) → (lineNumber room (lineAt text) ≡ 31) ↔ NoLine text
+  pub imports : (list out : List ℕ) → Imports list out (imported list out)
