@@ -1,1 +1,3 @@
 pub mod Times
+pub mod Scanning
+pub mod Quoting
