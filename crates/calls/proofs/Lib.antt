@@ -1,3 +1,5 @@
 pub mod Times
+pub mod Places
 pub mod Scanning
 pub mod Quoting
+pub mod Fields

@@ -15,7 +15,7 @@ use lib.ListN.{length, getD, take, drop, drop-of-length-le}
 use lib.Seq.{drop-cons, take-suc}
 use Rattle.algebra.proofs.Tests.{true-false}
 use Rattle.model.specs.Calls.{DQUOTE, Reading, found, missing, alone, withByte, quoted, isDigit, allDigits, Time, malformed, time}
-use Rattle.calls.specs.Meaning.{timedField, closedAt, quoteFirst}
+use Rattle.calls.specs.Meaning.{timedField, closedAt, isFirst}
 use Rattle.calls.proofs.Times.{no-time}
 use Rattle.calls.proofs.Scanning.{after, after-byte, after-nothing}
 
@@ -57,8 +57,8 @@ same-time (neither e f) = no-digits _ e ∙ sym (no-digits _ f)
 
 -- one byte of a field in quotes
 quoted-step : (b : ℕ) (s : List ℕ) → quoted (b ∷ s)
-    ≡ cond (eqb b DQUOTE) (cond (quoteFirst s) (withByte DQUOTE (quoted (drop 1 s))) (found [] s)) (cond (alone b) (withByte b (quoted s)) missing)
-unfolding quoted
+    ≡ cond (eqb b DQUOTE) (cond (isFirst DQUOTE s) (withByte DQUOTE (quoted (drop 1 s))) (found [] s)) (cond (alone b) (withByte b (quoted s)) missing)
+unfolding quoted isFirst
 quoted-step b [] = ap (λ (x : Reading (List ℕ)). cond (eqb b DQUOTE) (found [] []) x) (go (alone b))
   where
     go : (r : Bool) → _≡_ {A = Reading (List ℕ)} missing (cond r missing missing)
@@ -69,19 +69,13 @@ quoted-step b (c ∷ s) = refl
 two : (i : ℕ) → i + 2 ≡ suc (suc i)
 two i = omega arith
 
-quote-there : (s : List ℕ) (i : ℕ) → quoteFirst (drop i s) ≡ true → (i < length s) × (getD s i 0 ≡ DQUOTE)
+quote-there : (s : List ℕ) (i : ℕ) → isFirst DQUOTE (drop i s) ≡ true → (i < length s) × (getD s i 0 ≡ DQUOTE)
+unfolding isFirst
 quote-there s i e = go (decLt i (length s))
   where
     go : Dec (i < length s) → (i < length s) × (getD s i 0 ≡ DQUOTE)
-    go (yes h) = (h, eqb-true (getD s i 0) DQUOTE (sym (ap quoteFirst (drop-cons s i 0 h)) ∙ e))
-    go (no h) = absurd (true-false (sym e ∙ ap quoteFirst (drop-of-length-le s {i = i} (omega arith))))
-
--- a quote at a place, and at none
-pub quote-at : (s : List ℕ) (i : ℕ) → i < length s → eqb (getD s i 0) DQUOTE ≡ quoteFirst (drop i s)
-quote-at s i h = rw (drop-cons s i 0 h) refl
-
-pub no-quote-at : (s : List ℕ) (i : ℕ) → length s ≤ i → false ≡ quoteFirst (drop i s)
-no-quote-at s i h = rw (drop-of-length-le s {i = i} h) refl
+    go (yes h) = (h, eqb-true (getD s i 0) DQUOTE (sym (ap (isFirst DQUOTE) (drop-cons s i 0 h)) ∙ e))
+    go (no h) = absurd (true-false (sym e ∙ ap (isFirst DQUOTE) (drop-of-length-le s {i = i} (omega arith))))
 
 -- after i bytes between the quotes
 pub record Quoting (text : List ℕ) (i : ℕ) : Type 0 where
@@ -97,7 +91,7 @@ module _ {text : List ℕ} {i : ℕ} (Q : Quoting text i) where
   -- by the byte that stands here
   step : i < length text → quoted text ≡ after (Q .said)
       (cond (eqb (getD text i 0) DQUOTE)
-      (cond (quoteFirst (drop (suc i) text)) (withByte DQUOTE (quoted (drop 1 (drop (suc i) text)))) (found [] (drop (suc i) text)))
+      (cond (isFirst DQUOTE (drop (suc i) text)) (withByte DQUOTE (quoted (drop 1 (drop (suc i) text)))) (found [] (drop (suc i) text)))
       (cond (alone (getD text i 0)) (withByte (getD text i 0) (quoted (drop (suc i) text))) missing))
   step h = Q .rest ∙ ap (after (Q .said)) (ap quoted (drop-cons text i 0 h) ∙ quoted-step _ _)
 
@@ -110,9 +104,9 @@ module _ {text : List ℕ} {i : ℕ} (Q : Quoting text i) where
         rest = step h ∙ rw (add-one, ne-eqb _ DQUOTE n, ← q, e) (after-byte (Q .said) (getD text i 0) (quoted (drop (suc i) text)));
       }
 
-  pub quoting-two : {r : Bool} → i < length text → getD text i 0 ≡ DQUOTE → r ≡ quoteFirst (drop (i + 1) text) → r ≡ true → Quoting text (i + 2)
+  pub quoting-two : {r : Bool} → i < length text → getD text i 0 ≡ DQUOTE → r ≡ isFirst DQUOTE (drop (i + 1) text) → r ≡ true → Quoting text (i + 2)
   quoting-two h d q e =
-      let Z = quote-there text (suc i) (rw (← add-one) (sym q ∙ e)) in
+      let Z = quote-there text (suc i) (rw (← add-one i) (sym q ∙ e)) in
       record {
         within = omega (arith, Z .0);
         said = Q .said ++ (DQUOTE ∷ []);
@@ -122,12 +116,14 @@ module _ {text : List ℕ} {i : ℕ} (Q : Quoting text i) where
           ∙ rw (eq-eqb _ DQUOTE d, ← add-one i, ← q, e, add-one i, two i, drop-cons text (suc i) 0 (Z .0)) (after-byte (Q .said) DQUOTE (quoted (drop (suc (suc i)) text)));
       }
 
-  pub quoting-closed : {r : Bool} → i < length text → getD text i 0 ≡ DQUOTE → r ≡ quoteFirst (drop (i + 1) text) → r ≡ false
+  pub quoting-closed : {r : Bool} → i < length text → getD text i 0 ≡ DQUOTE → r ≡ isFirst DQUOTE (drop (i + 1) text) → r ≡ false
       → closedAt text i ≡ timedField (quoted text)
+  unfolding closedAt timedField
   quoting-closed h d q e =
       rw (lt-ltb i (length text) h, step h, eq-eqb _ DQUOTE d, ← add-one i, ← q, e) (ap (λ t. found t (drop (i + 1) text)) (same-time (Q .same) ∙ ap time (sym (append-nil (Q .said)))))
 
   open-end : quoted text ≡ missing → closedAt text (length text) ≡ timedField (quoted text)
+  unfolding closedAt timedField
   open-end e = rw (le-ltb (length text) (length text) (omega arith), e) refl
 
   pub quoting-breaks : {r : Bool} → i < length text → getD text i 0 ≢ DQUOTE → r ≡ alone (getD text i 0) → r ≡ false

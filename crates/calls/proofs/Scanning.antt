@@ -59,4 +59,5 @@ module _ {text : List ℕ} {i : ℕ} (P : Plain text i) where
 -- what a plain field of i bytes says as a time
 pub plain-time : (text : List ℕ) (i : ℕ) {t : Time} → plain text ≡ found (take i text) (drop i text) → t ≡ time (take i text)
     → found t (drop i text) ≡ timedField (plain text)
+unfolding timedField
 plain-time text i e q = rw (e, q) refl

@@ -6,7 +6,7 @@ use Prim.Native.Nat.{ℕ, suc}
 use lib.Dec.{ltb, eqb}
 use lib.ListN.{length, take, drop}
 use Rattle.model.specs.Calls as Calls
-use Rattle.model.specs.Calls.{Reading, found, missing, COMMA, DQUOTE}
+use Rattle.model.specs.Calls.{Reading, found, missing, COMMA}
 use Rattle.calls.specs.declared.time.Time.{Time}
 use Rattle.calls.specs.declared.time.Time.the-variants.{Absent, At, Malformed}
 use Rattle.calls.specs.declared.field.Field.{Field}
@@ -17,24 +17,24 @@ timeOf (At x) = Calls.at x
 timeOf Malformed = Calls.malformed
 
 -- a field by what it says as a time: all that is looked at
-abbrev pub timedField : Reading (List ℕ) → Reading Calls.Time
+unfoldable pub timedField : Reading (List ℕ) → Reading Calls.Time
 timedField (found v rest) = found (Calls.time v) rest
 timedField missing = missing
 
 -- a field in quotes, after its first, by the place of its last; there is none at the text's end
-abbrev pub closedAt : List ℕ → ℕ → Reading Calls.Time
+unfoldable pub closedAt : List ℕ → ℕ → Reading Calls.Time
 closedAt s i = cond (ltb i (length s)) (found (Calls.time (take i s)) (drop (suc i) s)) missing
 
-abbrev pub fieldOf : List ℕ → Field → Reading Calls.Time
+unfoldable pub fieldOf : List ℕ → Field → Reading Calls.Time
 fieldOf s r = cond (r .found) (found (timeOf (r .time)) (drop (r .next) s)) missing
 
 -- the field after a comma, by the field before it
-abbrev pub afterComma : Reading Calls.Time → Reading Calls.Time
+unfoldable pub afterComma : Reading Calls.Time → Reading Calls.Time
 afterComma missing = missing
 afterComma (found t []) = missing
 afterComma (found t (b ∷ s)) = cond (eqb b COMMA) (timedField (Calls.field s)) missing
 
--- whether a quote stands at the start of a text
-abbrev pub quoteFirst : List ℕ → Bool
-quoteFirst [] = false
-quoteFirst (b ∷ s) = eqb b DQUOTE
+-- whether a byte stands at the start of a text
+unfoldable pub isFirst : ℕ → List ℕ → Bool
+isFirst b [] = false
+isFirst b (c ∷ s) = eqb c b

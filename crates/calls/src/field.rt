@@ -4,7 +4,7 @@ ghost use mathlib.Core.List.{List};
 ghost use Prim.Native.Nat.{ℕ, _+_, _≤_};
 ghost use lib.ListN.{length, take, drop};
 ghost use Rattle.model.specs.Calls as Calls;
-ghost use Rattle.calls.specs.Meaning.{timedField, closedAt, fieldOf, afterComma, quoteFirst};
+ghost use Rattle.calls.specs.Meaning.{timedField, closedAt, fieldOf, afterComma, isFirst};
 use crate::letters;
 use crate::letters::COMMA;
 use crate::letters::DQUOTE;
@@ -64,7 +64,7 @@ fn quoted_length(text: &[u8]) -> usize
     while i < text.len() {
         let b = text[i];
         if b == DQUOTE {
-            if is_quote(text, i + 1) {
+            if stands(text, i + 1, DQUOTE) {
                 i += 2;
             } else {
                 return i;
@@ -78,9 +78,63 @@ fn quoted_length(text: &[u8]) -> usize
     i
 }
 
-// Whether a quote stands at this place.
-fn is_quote(text: &[u8], i: usize) -> bool
-    ensures { λ r. ⌜ r ≡ quoteFirst (drop i (now (text .entry))) ⌝ }
+// Whether a byte stands at a place.
+fn stands(text: &[u8], i: usize, b: u8) -> bool
+    ensures { λ r. ⌜ r ≡ isFirst b (drop i (now (text .entry))) ⌝ }
 {
-    if i < text.len() { text[i] == DQUOTE } else { false }
+    if i < text.len() { text[i] == b } else { false }
+}
+
+// "escaped = DQUOTE *(TEXTDATA / COMMA / CR / LF / 2DQUOTE) DQUOTE": the first quote stands at the text's start.
+fn escaped(text: &[u8]) -> Field
+    requires { ⌜ 1 ≤ length (now text) ⌝ }
+    ensures { λ r. ⌜ (fieldOf (now (text .entry)) r ≡ timedField (Calls.quoted (drop 1 (now (text .entry))))) × (r .next ≤ length (now (text .entry))) ⌝ }
+{
+    let size = quoted_length(&text[1..]);
+    if text.len() - 1 <= size {
+        return missing();
+    }
+    let time = read_time(&text[1..1 + size]);
+    Field {
+        found: true,
+        time,
+        next: size + 2,
+    }
+}
+
+// The field at the text's start.
+pub fn read_field(text: &[u8]) -> Field
+    ensures { λ r. ⌜ (fieldOf (now (text .entry)) r ≡ timedField (Calls.field (now (text .entry)))) × (r .next ≤ length (now (text .entry))) ⌝ }
+{
+    if stands(text, 0, DQUOTE) {
+        escaped(text)
+    } else {
+        non_escaped(text)
+    }
+}
+
+// The field from a place on.
+fn read_from(text: &[u8], at: usize) -> Field
+    requires { ⌜ at ≤ length (now text) ⌝ }
+    ensures { λ r. ⌜ (fieldOf (now (text .entry)) r ≡ timedField (Calls.field (drop at (now (text .entry))))) × (r .next ≤ length (now (text .entry))) ⌝ }
+{
+    let field = read_field(&text[at..]);
+    let time = field.time;
+    Field {
+        found: field.found,
+        time,
+        next: at + field.next,
+    }
+}
+
+// The field after a comma, where one follows the field before.
+pub fn read_next(text: &[u8], before: Field) -> Field
+    ensures { λ r. ⌜ (fieldOf (now (text .entry)) r ≡ afterComma (fieldOf (now (text .entry)) before)) × (r .next ≤ length (now (text .entry))) ⌝ }
+{
+    let at = before.next;
+    if letters::both(before.found, stands(text, at, COMMA)) {
+        read_from(text, at + 1)
+    } else {
+        missing()
+    }
 }

@@ -13,7 +13,7 @@ pub const DQUOTE: u8 = 0x22;
 pub const LF: u8 = 0x0A;
 
 // x && y and x || y as calls: a chain of tests is then one value, with no branch.
-fn both(x: bool, y: bool) -> bool
+pub fn both(x: bool, y: bool) -> bool
     ensures { λ r. ⌜ r ≡ (x && y) ⌝ }
 {
     if x { y } else { false }
