@@ -3,3 +3,4 @@ pub mod Places
 pub mod Scanning
 pub mod Quoting
 pub mod Fields
+pub mod Lasting

@@ -10,6 +10,7 @@ use Rattle.model.specs.Calls.{Reading, found, missing, COMMA}
 use Rattle.calls.specs.declared.time.Time.{Time}
 use Rattle.calls.specs.declared.time.Time.the-variants.{Absent, At, Malformed}
 use Rattle.calls.specs.declared.field.Field.{Field}
+use Rattle.calls.specs.declared.call.Call.{Call}
 
 abbrev pub timeOf : Time → Calls.Time
 timeOf Absent = Calls.none
@@ -38,3 +39,6 @@ afterComma (found t (b ∷ s)) = cond (eqb b COMMA) (timedField (Calls.field s))
 unfoldable pub isFirst : ℕ → List ℕ → Bool
 isFirst b [] = false
 isFirst b (c ∷ s) = eqb c b
+
+unfoldable pub callOf : Call → Calls.Call
+callOf r = cond (r .timed) (Calls.lasted (r .seconds)) Calls.wrong

@@ -1,3 +1,4 @@
+mod call;
 mod field;
 mod letters;
 mod time;

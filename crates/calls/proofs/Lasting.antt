@@ -1,0 +1,54 @@
+-- A call by its times, case by case.
+-- Assumes nothing.
+use mathlib.Core.Path.{_≡_, refl, sym, ap, _∙_}
+use mathlib.Core.Bool.{Bool, true, false, _&&_, cond}
+use Prim.Native.Nat.{ℕ, _-_, _≤_, _<_}
+use borrow.Author.Tests.{le-leb, lt-leb}
+use lib.Dec.{leb}
+use Rattle.model.specs.Calls as Calls
+use Rattle.model.specs.Calls.{at, none, malformed, lasted, wrong, lasting, timed}
+use Rattle.calls.specs.declared.time.Time.{Time}
+use Rattle.calls.specs.declared.time.Time.the-variants.{Absent, At, Malformed}
+use Rattle.calls.specs.Meaning.{timeOf}
+
+module _ (dialled ended : ℕ) {x : Calls.Call} where
+  pub answered-early : {answered : ℕ} → answered < dialled → x ≡ wrong → x ≡ lasting dialled ended (at answered)
+  unfolding lasting
+  answered-early {answered} h e = rw (lt-leb dialled answered h) e
+
+  pub ended-early : {answered : ℕ} → dialled ≤ answered → ended < answered → x ≡ wrong → x ≡ lasting dialled ended (at answered)
+  unfolding lasting
+  ended-early {answered} h k e = rw (le-leb dialled answered h, lt-leb answered ended k) e
+
+  pub in-order : {answered : ℕ} → dialled ≤ answered → answered ≤ ended → x ≡ lasted (ended - answered) → x ≡ lasting dialled ended (at answered)
+  unfolding lasting
+  in-order {answered} h k e = rw (le-leb dialled answered h, le-leb answered ended k) e
+
+  pub unanswered-early : ended < dialled → x ≡ wrong → x ≡ lasting dialled ended none
+  unfolding lasting
+  unanswered-early h e = rw (lt-leb dialled ended h) e
+
+  pub unanswered : dialled ≤ ended → x ≡ lasted 0 → x ≡ lasting dialled ended none
+  unfolding lasting
+  unanswered h e = rw (le-leb dialled ended h) e
+
+-- by what the code's enum is
+module _ {t : Time} {x : Calls.Call} where
+  pub lasting-at : (dialled ended : ℕ) {answered : ℕ} → t ≡ At answered → x ≡ lasting dialled ended (at answered) → x ≡ lasting dialled ended (timeOf t)
+  lasting-at dialled ended q e = rw q e
+
+  pub lasting-none : (dialled ended : ℕ) → t ≡ Absent → x ≡ lasting dialled ended none → x ≡ lasting dialled ended (timeOf t)
+  lasting-none dialled ended q e = rw q e
+
+  pub lasting-bad : (dialled ended : ℕ) → t ≡ Malformed → x ≡ wrong → x ≡ lasting dialled ended (timeOf t)
+  unfolding lasting
+  lasting-bad dialled ended q e = rw q e
+
+  pub timed-at : (f : ℕ → Calls.Call) {a : ℕ} → t ≡ At a → x ≡ f a → x ≡ timed (timeOf t) f
+  timed-at f q e = rw q e
+
+  pub timed-none : (f : ℕ → Calls.Call) → t ≡ Absent → x ≡ wrong → x ≡ timed (timeOf t) f
+  timed-none f q e = rw q e
+
+  pub timed-bad : (f : ℕ → Calls.Call) → t ≡ Malformed → x ≡ wrong → x ≡ timed (timeOf t) f
+  timed-bad f q e = rw q e

@@ -1,0 +1,12 @@
+-- `call_between` meets its contract.
+-- Assumes nothing.
+use borrow.Author.Needs.{needs}
+use Rattle.calls.proofs.Lasting.{timed-at, timed-none, timed-bad}
+use Rattle.calls.proofs.call.call_between.Statement.{statement}
+use Rattle.calls.proofs.call.call_between.Tie as tie
+
+pub call-between-spec : {M : Type 1} → statement M
+call-between-spec =
+    tie.close
+    (tie.spec (λ c. search needs) (λ c κs. search needs) (λ c. search needs) (λ c κs. search needs) (λ c. search needs) (λ c κs. search needs)
+    (λ c. search (needs, timed-at)) (λ c. search (needs, timed-none)) (λ c. search (needs, timed-bad)))

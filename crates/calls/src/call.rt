@@ -1,0 +1,79 @@
+// How long a call lasted: "ended minus answered, or 0 for no answer".
+ghost use mathlib.Core.Path.{_≡_};
+ghost use Rattle.model.specs.Calls as Calls;
+ghost use Rattle.calls.specs.Meaning.{timeOf, callOf};
+use crate::time::Time;
+
+// Whether the times are good, and the seconds, 0 where they are not.
+pub struct Call {
+    pub timed: bool,
+    pub seconds: u32,
+}
+
+fn wrong() -> Call
+    ensures { λ r. ⌜ callOf r ≡ Calls.wrong ⌝ }
+{
+    Call {
+        timed: false,
+        seconds: 0,
+    }
+}
+
+fn picked_up(dialled: u32, answered: u32, ended: u32) -> Call
+    ensures { λ r. ⌜ callOf r ≡ Calls.lasting dialled ended (Calls.at answered) ⌝ }
+{
+    if answered < dialled {
+        return wrong();
+    }
+    if ended < answered {
+        return wrong();
+    }
+    Call {
+        timed: true,
+        seconds: ended - answered,
+    }
+}
+
+fn not_picked_up(dialled: u32, ended: u32) -> Call
+    ensures { λ r. ⌜ callOf r ≡ Calls.lasting dialled ended Calls.none ⌝ }
+{
+    if ended < dialled {
+        return wrong();
+    }
+    Call {
+        timed: true,
+        seconds: 0,
+    }
+}
+
+fn lasting(dialled: u32, ended: u32, answered: Time) -> Call
+    ensures { λ r. ⌜ callOf r ≡ Calls.lasting dialled ended (timeOf answered) ⌝ }
+{
+    match answered {
+        Time::At(x) => picked_up(dialled, x, ended),
+        Time::Absent => not_picked_up(dialled, ended),
+        Time::Malformed => wrong(),
+    }
+}
+
+// The call that was dialled then.
+fn dialled_at(dialled: u32, answered: Time, ended: Time) -> Call
+    ensures { λ r. ⌜ callOf r ≡ Calls.timed (timeOf ended) (λ e. Calls.lasting dialled e (timeOf answered)) ⌝ }
+{
+    match ended {
+        Time::At(e) => lasting(dialled, e, answered),
+        Time::Absent => wrong(),
+        Time::Malformed => wrong(),
+    }
+}
+
+// The call with these times: only the answered one may be absent.
+pub fn call_between(dialled: Time, answered: Time, ended: Time) -> Call
+    ensures { λ r. ⌜ callOf r ≡ Calls.timed (timeOf dialled) (λ d. Calls.timed (timeOf ended) (λ e. Calls.lasting d e (timeOf answered))) ⌝ }
+{
+    match dialled {
+        Time::At(d) => dialled_at(d, answered, ended),
+        Time::Absent => wrong(),
+        Time::Malformed => wrong(),
+    }
+}
