@@ -4,3 +4,6 @@ pub mod Scanning
 pub mod Quoting
 pub mod Fields
 pub mod Lasting
+pub mod Lines
+pub mod LineEnds
+pub mod FourFields

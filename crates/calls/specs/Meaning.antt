@@ -11,6 +11,7 @@ use Rattle.calls.specs.declared.time.Time.{Time}
 use Rattle.calls.specs.declared.time.Time.the-variants.{Absent, At, Malformed}
 use Rattle.calls.specs.declared.field.Field.{Field}
 use Rattle.calls.specs.declared.call.Call.{Call}
+use Rattle.calls.specs.declared.line.Line.{Line}
 
 abbrev pub timeOf : Time → Calls.Time
 timeOf Absent = Calls.none
@@ -42,3 +43,6 @@ isFirst b (c ∷ s) = eqb c b
 
 unfoldable pub callOf : Call → Calls.Call
 callOf r = cond (r .timed) (Calls.lasted (r .seconds)) Calls.wrong
+
+unfoldable pub lineOf : List ℕ → Line → Reading Calls.Call
+lineOf s r = cond (r .found) (found (callOf (r .call)) (drop (r .next) s)) missing

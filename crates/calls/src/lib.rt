@@ -1,4 +1,5 @@
 mod call;
 mod field;
 mod letters;
+mod line;
 mod time;
