@@ -40,10 +40,10 @@ last-of text ts true t at next e call q d h = rw (← q, ← d, ← h refl) refl
 last-of text ts false t at next e call q d h = refl
 
 module _ (text : List ℕ) (name dialled answered ended : Field)
-  (first : fieldOf text name ≡ timedField (field text))
-  (second : fieldOf text dialled ≡ afterComma (fieldOf text name))
-  (third : fieldOf text answered ≡ afterComma (fieldOf text dialled))
-  (fourth : fieldOf text ended ≡ afterComma (fieldOf text answered)) where
+    (first : fieldOf text name ≡ timedField (field text))
+    (second : fieldOf text dialled ≡ afterComma (fieldOf text name))
+    (third : fieldOf text answered ≡ afterComma (fieldOf text dialled))
+    (fourth : fieldOf text ended ≡ afterComma (fieldOf text answered)) where
   chain : lineAt text ≡ lineFrom 0 (timeIn (fieldOf text name) ∷ timeIn (fieldOf text dialled) ∷ timeIn (fieldOf text answered) ∷ []) (fieldOf text ended)
   unfolding lineFrom
   chain = line-from text ∙ rw (fourth, third, second, first) refl

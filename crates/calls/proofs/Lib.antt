@@ -7,3 +7,5 @@ pub mod Lasting
 pub mod Lines
 pub mod LineEnds
 pub mod FourFields
+pub mod Turns
+pub mod Importing

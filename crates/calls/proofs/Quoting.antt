@@ -112,8 +112,8 @@ module _ {text : List ℕ} {i : ℕ} (Q : Quoting text i) where
         said = Q .said ++ (DQUOTE ∷ []);
         same = rw (two i, take-suc text (suc i) 0 (Z .0), Z .1) (neither (quote-no-digit (take (suc i) text) []) (quote-no-digit (Q .said) []));
         rest =
-          step h
-          ∙ rw (eq-eqb _ DQUOTE d, ← add-one i, ← q, e, add-one i, two i, drop-cons text (suc i) 0 (Z .0)) (after-byte (Q .said) DQUOTE (quoted (drop (suc (suc i)) text)));
+            step h
+            ∙ rw (eq-eqb _ DQUOTE d, ← add-one i, ← q, e, add-one i, two i, drop-cons text (suc i) 0 (Z .0)) (after-byte (Q .said) DQUOTE (quoted (drop (suc (suc i)) text)));
       }
 
   pub quoting-closed : {r : Bool} → i < length text → getD text i 0 ≡ DQUOTE → r ≡ isFirst DQUOTE (drop (i + 1) text) → r ≡ false

@@ -1,8 +1,9 @@
 -- What the code's structs say in the model's words.
 -- Assumes nothing.
+use mathlib.Core.Path.{_≡_}
 use mathlib.Core.Bool.{Bool, false, cond}
 use mathlib.Core.List.{List, [], _∷_}
-use Prim.Native.Nat.{ℕ, suc}
+use Prim.Native.Nat.{ℕ, suc, _≤_}
 use lib.Dec.{ltb, eqb}
 use lib.ListN.{length, take, drop}
 use Rattle.model.specs.Calls as Calls
@@ -12,6 +13,8 @@ use Rattle.calls.specs.declared.time.Time.the-variants.{Absent, At, Malf
 use Rattle.calls.specs.declared.field.Field.{Field}
 use Rattle.calls.specs.declared.call.Call.{Call}
 use Rattle.calls.specs.declared.line.Line.{Line}
+use Rattle.calls.specs.declared.Turn.{Turn}
+use Rattle.calls.specs.declared.Imported.{Imported}
 
 abbrev pub timeOf : Time → Calls.Time
 timeOf Absent = Calls.none
@@ -46,3 +49,14 @@ callOf r = cond (r .timed) (Calls.lasted (r .seconds)) Calls.wrong
 
 unfoldable pub lineOf : List ℕ → Line → Reading Calls.Call
 lineOf s r = cond (r .found) (found (callOf (r .call)) (drop (r .next) s)) missing
+
+-- The line from a place on, with so many places left in the buffer: its number, and where that is 0 its call and the text after it.
+pub record Turned (list : List ℕ) (at room : ℕ) (r : Turn) : Type 0 where
+  pub number : r .number ≡ Calls.lineNumber room (Calls.lineAt (drop at list))
+  pub seconds : r .number ≡ 0 → r .seconds ≡ Calls.secondsOf (Calls.lineAt (drop at list))
+  pub next : r .number ≡ 0 → drop (r .next) list ≡ Calls.nextOf (Calls.lineAt (drop at list))
+  pub within : r .next ≤ length list
+
+-- an answer, and the buffer after the import
+abbrev pub importOf : Imported → List ℕ → Calls.Imported
+importOf r out = record { number = r .number; calls = r .calls; out = out }

@@ -8,8 +8,8 @@ ghost use Rattle.calls.specs.Meaning.{timedField, closedAt, fieldOf, aft
 use crate::letters;
 use crate::letters::COMMA;
 use crate::letters::DQUOTE;
-use crate::time::read_time;
 use crate::time::Time;
+use crate::time::read_time;
 
 // Whether there is a field, what it says as a time, and the place after it.
 pub struct Field {

@@ -35,7 +35,10 @@ fn within(b: u8, low: u8, high: u8) -> bool
 pub fn is_textdata(b: u8) -> bool
     ensures { λ r. ⌜ r ≡ Calls.isTEXTDATA b ⌝ }
 {
-    either(within(b, 0x20, 0x21), either(within(b, 0x23, 0x2B), within(b, 0x2D, 0x7E)))
+    either(
+        within(b, 0x20, 0x21),
+        either(within(b, 0x23, 0x2B), within(b, 0x2D, 0x7E)),
+    )
 }
 
 // What may stand alone between quotes.

@@ -4,13 +4,13 @@ ghost use Prim.Native.Nat.{_≤_};
 ghost use lib.ListN.{length, drop};
 ghost use Rattle.model.specs.Calls as Calls;
 ghost use Rattle.calls.specs.Meaning.{lineOf};
-use crate::call::call_between;
 use crate::call::Call;
+use crate::call::call_between;
 use crate::field::read_field;
 use crate::field::read_next;
-use crate::letters::both;
 use crate::letters::CR;
 use crate::letters::LF;
+use crate::letters::both;
 
 // Whether a line ends here, and the place after its line break.
 struct End {
