@@ -45,6 +45,7 @@ pub mod Written
 pub mod Formulas
 pub mod Performed
 pub mod Exactness
+pub mod Disjunctions
 pub mod Refusals
 pub mod Agreeing
 pub mod Partners
@@ -54,4 +55,7 @@ pub mod Veil
 pub mod MadeSheets
 pub mod Secrecy
 pub mod RealRuns
+pub mod CallBytes
+pub mod CallFound
+pub mod CallReading
 pub mod Cases

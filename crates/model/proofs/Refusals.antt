@@ -2,7 +2,6 @@
 -- Assumes nothing.
 use mathlib.Core.Path.{_≡_, refl, sym, ap, subst, _∙_}
 use mathlib.Core.Logic.{_↔_, _≢_, _⊎_, inl, inr, ⊎-elim}
-use mathlib.Core.Bool.{Bool, true, false, _||_}
 use mathlib.Core.List.{List, [], _∷_}
 use Prim.Native.Nat.{ℕ, zero, suc, _≤_}
 use native.Mathlib.Omega.{arith}
@@ -19,6 +18,7 @@ use Rattle.model.specs.Run.{Spent, State, Supply, Stop, check, finish, r
 use Rattle.model.specs.Exactness.{Accepted}
 use Rattle.model.specs.Refusals.{isRun, From, Numbered, Numbers, Untouched, NothingRun}
 use Rattle.model.proofs.Trying.{upTo, number-most, failed-in}
+use Rattle.model.proofs.Disjunctions.{or-either, or-right}
 use Rattle.model.proofs.StepLaws.{run-end, run-line}
 use Rattle.model.proofs.Readings.{every-script}
 
@@ -101,14 +101,6 @@ same-refusal {c} {i} e = (ap numberIn e, ap placeIn e)
     placeIn (refused number place) = place
 
 -- `isRun` tells the numbers of the one list from those of the other
-or-either : (a b : Bool) → T (a || b) → T a ⊎ T b
-or-either true b t = inl tt
-or-either false b t = inr t
-
-or-right : (a b : Bool) → T b → T (a || b)
-or-right true b t = tt
-or-right false b t = t
-
 refuses : (number : ℕ) → From 1 20 number → T (isRun number) → ⊥
 unfolding isRun
 refuses number h t =
