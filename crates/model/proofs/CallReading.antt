@@ -139,7 +139,7 @@ unfolding readLine
 line-found text rest fs e = rw e at (derives (suc (length text)) text)
 
 -- a reading finds one thing
-same-found : {A : Type 0} {r : Reading A} {v v′ : A} {rest rest′ : List ℕ} → r ≡ found v rest → r ≡ found v′ rest′ → (v ≡ v′) × (rest ≡ rest′)
+pub same-found : {A : Type 0} {r : Reading A} {v v′ : A} {rest rest′ : List ℕ} → r ≡ found v rest → r ≡ found v′ rest′ → (v ≡ v′) × (rest ≡ rest′)
 same-found e e′ = (cc, cc)
 
 pub reads : Reads

@@ -58,4 +58,6 @@ pub mod RealRuns
 pub mod CallBytes
 pub mod CallFound
 pub mod CallReading
+pub mod CallTimes
+pub mod CallLists
 pub mod Cases
