@@ -9,9 +9,8 @@ use native.Mathlib.Omega.{arith}
 use borrow.Author.Tests.{ne-eqb}
 use lib.Dec.{T, leb, eqb, leb→le, le→leb, eqb→eq}
 use Rattle.algebra.specs.Lists.{All, none, one}
-use Rattle.algebra.proofs.Tests.{and-left, and-right, and-both}
+use Rattle.algebra.proofs.Tests.{and-left, and-right, and-both, or-either, or-left, or-right}
 use Rattle.model.specs.Calls.{COMMA, CR, DQUOTE, LF, TEXTDATA, x20-21, x23-2B, x2D-7E, isTEXTDATA, alone, isDigit, allDigits, Quoted, a-TEXTDATA, a-COMMA, a-CR, a-LF}
-use Rattle.model.proofs.Disjunctions.{or-either, or-left, or-right}
 
 -- a range as a test
 pub between : (low b high : ℕ) → T (leb low b && leb b high) ↔ ((low ≤ b) × (b ≤ high))

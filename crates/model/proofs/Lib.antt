@@ -45,7 +45,6 @@ pub mod Written
 pub mod Formulas
 pub mod Performed
 pub mod Exactness
-pub mod Disjunctions
 pub mod Refusals
 pub mod Agreeing
 pub mod Partners

@@ -8,6 +8,7 @@ use native.Mathlib.Omega.{arith}
 use lib.Dec.{T, leb, eqb, leb→le, le→leb, eqb→eq}
 use lib.ListN.{length}
 use Rattle.algebra.specs.Lists.{onto, none, one}
+use Rattle.algebra.proofs.Tests.{or-either, or-right}
 use Rattle.model.specs.Fields.{fieldTests, settingTests}
 use Rattle.model.specs.Steps.{Setting, Row}
 use Rattle.model.specs.Script.{Line, Script, accepted, refused, scriptOf}
@@ -18,7 +19,6 @@ use Rattle.model.specs.Run.{Spent, State, Supply, Stop, check, finish, r
 use Rattle.model.specs.Exactness.{Accepted}
 use Rattle.model.specs.Refusals.{isRun, From, Numbered, Numbers, Untouched, NothingRun}
 use Rattle.model.proofs.Trying.{upTo, number-most, failed-in}
-use Rattle.model.proofs.Disjunctions.{or-either, or-right}
 use Rattle.model.proofs.StepLaws.{run-end, run-line}
 use Rattle.model.proofs.Readings.{every-script}
 
