@@ -1,16 +1,15 @@
--- The bytes of a list of calls by their tests: TEXTDATA, what stands alone between quotes, and digits.
+-- The bytes of a list of calls by their tests: TEXTDATA, and what stands alone between quotes.
 -- Assumes nothing.
 use mathlib.Core.Path.{_≡_}
 use mathlib.Core.Logic.{_↔_, ⊎-elim}
 use mathlib.Core.Bool.{false, _&&_}
-use mathlib.Core.List.{List, [], _∷_}
+use mathlib.Core.List.{List, _∷_}
 use Prim.Native.Nat.{ℕ, _≤_}
 use native.Mathlib.Omega.{arith}
 use borrow.Author.Tests.{ne-eqb}
 use lib.Dec.{T, leb, eqb, leb→le, le→leb, eqb→eq}
-use Rattle.algebra.specs.Lists.{All, none, one}
 use Rattle.algebra.proofs.Tests.{and-left, and-right, and-both, or-either, or-left, or-right}
-use Rattle.model.specs.Calls.{COMMA, CR, DQUOTE, LF, TEXTDATA, x20-21, x23-2B, x2D-7E, isTEXTDATA, alone, isDigit, allDigits, Quoted, a-TEXTDATA, a-COMMA, a-CR, a-LF}
+use Rattle.model.specs.Calls.{COMMA, CR, DQUOTE, LF, TEXTDATA, x20-21, x23-2B, x2D-7E, isTEXTDATA, alone, Quoted, a-TEXTDATA, a-COMMA, a-CR, a-LF}
 
 -- a range as a test
 pub between : (low b high : ℕ) → T (leb low b && leb b high) ↔ ((low ≤ b) × (b ≤ high))
@@ -55,14 +54,3 @@ one-alone b t q =
     (λ k. ⊎-elim (λ h. rw (eqb→eq b COMMA h) (a-COMMA q))
     (λ l. ⊎-elim (λ h. rw (eqb→eq b CR h) (a-CR q)) (λ h. rw (eqb→eq b LF h) (a-LF q)) (or-either (eqb b CR) _ l)) (or-either (eqb b COMMA) _ k))
     (or-either (isTEXTDATA b) _ t)
-
-pub all-digits : (s : List ℕ) → T (allDigits s) ↔ All (λ b. (48 ≤ b) × (b ≤ 57)) s
-unfolding allDigits isDigit
-all-digits [] = (λ t. none, λ a. tt)
-all-digits (b ∷ s) = (
-  λ t. one (between 48 b 57 .0 (and-left (isDigit b) (allDigits s) t)) (all-digits s .0 (and-right (isDigit b) (allDigits s) t)),
-  λ a. to-test a (all-digits s .1),
-)
-  where
-    to-test : All (λ b. (48 ≤ b) × (b ≤ 57)) (b ∷ s) → (All (λ b. (48 ≤ b) × (b ≤ 57)) s → T (allDigits s)) → T (allDigits (b ∷ s))
-    to-test (one h hs) k = and-both (isDigit b) (allDigits s) (between 48 b 57 .1 h) (k hs)
