@@ -54,7 +54,7 @@ decimal-after {s} D (b ∷ r) t =
 pub decimal : (s : List ℕ) → T (allDigits s) → Decimal s (spelt 0 s)
 decimal = decimal-after no-digit
 
--- a number is below the power of ten that has its digits as zeros, so that a time is at most 9,999,999
+-- n digits spell a number below 10 ^ n, so that a time is at most 9,999,999
 below-power : {s : List ℕ} {x : ℕ} → Decimal s x → x < 10 ^ length s
 below-power no-digit = omega arith
 below-power (digit {s} {d = d} D h) = rw (length-append, add-one) (omega (arith, below-power D))

@@ -51,7 +51,7 @@ good-length : {text name dialled answered ended rest : List ℕ} {c : ℕ} → F
 good-length F (picked-up D A E h q) = omega (arith, four-length F, D .one, E .one)
 good-length F (nobody D E h) = omega (arith, four-length F, D .one, E .one)
 
--- and each before a text of as many has a line break after it
+-- and where five bytes or more are left after it, a line break of two
 lines-length : {text seconds left : List ℕ} → Lines text seconds left → 5 ≤ length left → 7 * length seconds + length left ≤ length text
 lines-length no-line h = omega arith
 lines-length (line {rest = rest} F L Ls) h = omega (arith, good-length F L, lines-length Ls h, length-drop (length CRLF) rest)

@@ -76,7 +76,7 @@ no-call : {dialled answered ended : List ℕ} {x z : ℕ} → Spells dialled x �
 no-call D E k l c (picked-up {y = y} D′ A E′ h q) = k y A (omega (arith, same-number D D′)) (omega (arith, same-number E E′))
 no-call D E k l c (nobody D′ E′ h) = l refl (omega (arith, same-number D D′, same-number E E′))
 
--- a call lasted one time
+-- the fields of a line tell at most one call
 same-seconds : {dialled answered ended : List ℕ} {c c′ : ℕ} → Lasted dialled answered ended c → Lasted dialled answered ended c′ → c ≡ c′
 same-seconds (picked-up D A E h q) (picked-up D′ A′ E′ h′ q′) = omega (arith, same-number A A′, same-number E E′)
 same-seconds (picked-up D A E h q) (nobody D′ E′ h′) = absurd (spells-some A)
