@@ -1,7 +1,9 @@
--- Tests that compute: a conjunction taken apart, what holds of both branches, and a rule proved at every number below a bound by one computed test.
+-- Tests that compute: conjunctions and disjunctions taken apart and made, what holds of both branches, and a rule proved at every number below a
+-- bound by one computed test.
 -- Assumes nothing.
 use mathlib.Core.Path.{_≡_, refl}
-use mathlib.Core.Bool.{Bool, true, false, _&&_, cond}
+use mathlib.Core.Logic.{_⊎_, inl, inr}
+use mathlib.Core.Bool.{Bool, true, false, _&&_, _||_, cond}
 use Prim.Native.Nat.{ℕ, zero, suc, _<_}
 use native.Mathlib.Decide.{decLt}
 use native.Mathlib.Omega.{arith}
@@ -18,6 +20,18 @@ and-right false b t = absurd t
 pub and-both : (a b : Bool) → T a → T b → T (a && b)
 and-both true b s t = t
 and-both false b s t = s
+
+pub or-either : (a b : Bool) → T (a || b) → T a ⊎ T b
+or-either true b t = inl tt
+or-either false b t = inr t
+
+pub or-left : (a b : Bool) → T a → T (a || b)
+or-left true b t = tt
+or-left false b t = absurd t
+
+pub or-right : (a b : Bool) → T b → T (a || b)
+or-right true b t = tt
+or-right false b t = t
 
 pub true-false : true ≡ false → ⊥
 true-false q = let z : _≡_ {A = ℕ} 0 1 = cc in omega arith

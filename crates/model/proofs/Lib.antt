@@ -54,4 +54,11 @@ pub mod Veil
 pub mod MadeSheets
 pub mod Secrecy
 pub mod RealRuns
+pub mod CallBytes
+pub mod CallDigits
+pub mod CallFound
+pub mod CallReading
+pub mod CallTimes
+pub mod CallRoom
+pub mod CallLists
 pub mod Cases

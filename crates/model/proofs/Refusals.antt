@@ -2,13 +2,13 @@
 -- Assumes nothing.
 use mathlib.Core.Path.{_≡_, refl, sym, ap, subst, _∙_}
 use mathlib.Core.Logic.{_↔_, _≢_, _⊎_, inl, inr, ⊎-elim}
-use mathlib.Core.Bool.{Bool, true, false, _||_}
 use mathlib.Core.List.{List, [], _∷_}
 use Prim.Native.Nat.{ℕ, zero, suc, _≤_}
 use native.Mathlib.Omega.{arith}
 use lib.Dec.{T, leb, eqb, leb→le, le→leb, eqb→eq}
 use lib.ListN.{length}
 use Rattle.algebra.specs.Lists.{onto, none, one}
+use Rattle.algebra.proofs.Tests.{or-either, or-right}
 use Rattle.model.specs.Fields.{fieldTests, settingTests}
 use Rattle.model.specs.Steps.{Setting, Row}
 use Rattle.model.specs.Script.{Line, Script, accepted, refused, scriptOf}
@@ -101,14 +101,6 @@ same-refusal {c} {i} e = (ap numberIn e, ap placeIn e)
     placeIn (refused number place) = place
 
 -- `isRun` tells the numbers of the one list from those of the other
-or-either : (a b : Bool) → T (a || b) → T a ⊎ T b
-or-either true b t = inl tt
-or-either false b t = inr t
-
-or-right : (a b : Bool) → T b → T (a || b)
-or-right true b t = tt
-or-right false b t = t
-
 refuses : (number : ℕ) → From 1 20 number → T (isRun number) → ⊥
 unfolding isRun
 refuses number h t =

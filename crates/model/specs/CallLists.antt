@@ -3,11 +3,11 @@
 -- Assumes nothing.
 use mathlib.Core.Path.{_≡_}
 use mathlib.Core.Logic.{_↔_, _≢_}
-use mathlib.Core.List.{List, [], _∷_}
-use Prim.Native.Nat.{ℕ, _+_, _-_, _≤_}
+use mathlib.Core.List.{List, [], _∷_, _++_}
+use Prim.Native.Nat.{ℕ, _+_, _*_, _-_, _≤_, _<_}
 use lib.ListN.{length, drop}
 use Rattle.algebra.specs.Lists.{All, onto}
-use Rattle.model.specs.Calls.{CRLF, Derives, found, readLine, spelt, lineAt, lineNumber, Imported, imported}
+use Rattle.model.specs.Calls.{CRLF, Derives, found, readLine, at, time, lasted, call, lineAt, lineNumber, Imported, imported}
 
 -- The reader finds fields and a rest exactly where the grammar derives them, and no text has two readings.
 pub record Reads : Type 0 where
@@ -22,12 +22,16 @@ FourFields text name dialled answered ended rest = Derives text (name ∷ dialle
 abbrev pub NoLine : List ℕ → Type 0
 NoLine text = (name dialled answered ended rest : List ℕ) → FourFields text name dialled answered ended rest → ⊥
 
+-- the number that decimal digits spell, the last digit being the ones; 48 is the byte of the digit 0
+pub data Decimal : List ℕ → ℕ → Type 0 where
+  no-digit : Decimal [] 0
+  digit : {s : List ℕ} {x d : ℕ} → Decimal s x → d ≤ 9 → Decimal (s ++ ((48 + d) ∷ [])) (10 * x + d)
+
 -- "A time is one to seven digits": the text s, and the number that its digits spell
 pub record Spells (s : List ℕ) (x : ℕ) : Type 0 where
   pub one : 1 ≤ length s
   pub seven : length s ≤ 7
-  pub digits : All (λ b. (48 ≤ b) × (b ≤ 57)) s
-  pub number : x ≡ spelt 0 s
+  pub decimal : Decimal s x
 
 -- "ended minus answered, or 0 for no answer": a call with these fields is good and lasted c seconds
 pub data Lasted : (dialled answered ended : List ℕ) → ℕ → Type 0 where
@@ -63,12 +67,23 @@ pub record Imports (list out : List ℕ) (x : Imported) : Type 0 where
   pub number : Answer (length out - length seconds) left (x .number)
   pub calls : x .calls ≡ length seconds
   pub fits : length seconds ≤ length out
+  -- "one 32-bit number a call": a time has at most seven digits
+  pub numbers : All (λ c. c ≤ 9999999) seconds
   -- "the rest of the buffer is left"
   pub out-is : x .out ≡ onto seconds out
 
 -- for every list and every buffer
 pub record CallLists : Type 0 where
   pub reads : Reads
+  -- "A time is one to seven digits": a field is read as a time exactly where it spells one
+  pub times : (s : List ℕ) (x : ℕ) → (time s ≡ at x) ↔ Spells s x
+  -- "ended minus answered, or 0 for no answer": the fields of a line are read as a good call exactly where they tell one
+  pub calls : (name dialled answered ended : List ℕ) (c : ℕ) → (call (name ∷ dialled ∷ answered ∷ ended ∷ []) ≡ lasted c) ↔ Lasted dialled answered ended c
   -- 31 is said exactly where no derivation with four fields exists, whatever the buffer
   pub refused : (room : ℕ) (text : List ℕ) → (lineNumber room (lineAt text) ≡ 31) ↔ NoLine text
   pub imports : (list out : List ℕ) → Imports list out (imported list out)
+  -- "The number (0 when done) and the calls written are returned; the rest of the buffer is left": `Imports` fixes all of it
+  pub one-import : (list out : List ℕ) (x y : Imported) → Imports list out x → Imports list out y → x ≡ y
+  -- "33 the buffer is full": a line with a good call has at least five bytes, as ,0,,0 has, and a line break of two bytes before the next. So n + 1
+  -- of them have at least 7 * (n + 1) - 2 bytes, and for a shorter list n places are enough.
+  pub ample : (list out : List ℕ) → length list + 2 < 7 * (length out + 1) → imported list out .number ≢ 33
