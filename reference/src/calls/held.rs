@@ -67,7 +67,7 @@ fn records() -> Vec<Held> {
         ),
         held("two lines", b"a,1,2,5\r\nb,3,,4\r\n", 3),
         held("a name may be empty", b",1,2,5", 1),
-        held("20 and 7E, the ends of text", b" ~,1,2,5", 1),
+        held("20 and 7E, the ends of text", b"~ ,1,2,5", 1),
         held(
             "21, 23, 2B and 2D, next to quote and comma",
             b"!#+-,1,2,5",
@@ -144,14 +144,18 @@ fn times() -> Vec<Held> {
 fn turns() -> Vec<Held> {
     vec![
         held("31 before 32 in one line", b"a,x,2", 1),
-        held("31 before 32: a line is read whole", b"a,x,2,5\"", 1),
+        held("31 before 32: the line is read whole", b"a,x,2,5\"", 1),
         held("32: the line before decides", b"a,x,2,5\r\na", 1),
         held(
             "32: the call of the line before stands",
             b"a,1,2,5\r\nb,1,2,1",
             3,
         ),
-        held("31: though the buffer is full", b"a,1,2,5\r\nb", 1),
+        held(
+            "31 before 33: a bad line in a full buffer",
+            b"a,1,2,5\r\nb",
+            1,
+        ),
         held("32 before 33: a bad line in a full buffer", b"a,1,2,1", 0),
         held("33: no buffer", b"a,1,2,5", 0),
         held("33: one place for two calls", b"a,1,2,5\r\nb,3,,4", 1),
