@@ -1,6 +1,6 @@
 //! What can be wrong with a list.
 
-use super::draft::{Field, Line};
+use super::draft::{Field, Line, LARGEST_TIME};
 use crate::cases::generator::Generator;
 
 /// Bytes that the grammar or a time gives a meaning, their neighbours, and some that it has not.
@@ -33,8 +33,8 @@ fn move_time(generator: &mut Generator, field: &mut Field) {
     let text = String::from_utf8_lossy(&field.text);
     let time: u32 = text.parse().unwrap_or(0);
     let near = [time.saturating_sub(1), time.saturating_sub(2), time + 1];
-    let any = generator.below(10_000_000);
-    let choices = [near[0], near[0], near[1], near[2], 0, 9_999_999, any];
+    let any = generator.below(LARGEST_TIME + 1);
+    let choices = [near[0], near[0], near[1], near[2], 0, LARGEST_TIME, any];
     field.text = generator.pick(&choices).to_string().into_bytes();
 }
 
