@@ -1,4 +1,4 @@
-/* Jundrethol: Shamir shares, and scripts that work on them, for C on x86-64 Linux.
+/* Jundrethol: Shamir shares, scripts that work on them, and calls from an exchange's list, for C on x86-64 Linux.
  *
  * Link target/staticlib/libjundrethol.a, which `rt staticlib jundrethol` writes. Each function is proved to give exactly the answer that its
  * contract in crates/jundrethol/src/lib.rt fixes, to end, and not to fault, whatever the numbers, the bytes and the lengths are. Nothing is
@@ -33,7 +33,7 @@ extern "C" {
  * numbers, functions their parameters, and a call that answers 0 or 21 to 26 leaves the same values. A higher second number may add functions,
  * refusals, and counts after the last, and may run what was refused with 1 to 20. */
 #define JUNDRETHOL_VERSION_MAJOR 1
-#define JUNDRETHOL_VERSION_MINOR 0
+#define JUNDRETHOL_VERSION_MINOR 1
 
 /* What every function answers: 0, or the first of the others that applies. */
 #define JUNDRETHOL_DONE 0
@@ -58,6 +58,11 @@ extern "C" {
 #define JUNDRETHOL_TOO_FEW_TRIPLES 24 /* fewer triples are left than the command takes */
 #define JUNDRETHOL_RECORD_FULL 25     /* the record cannot take all shares of the command */
 #define JUNDRETHOL_REVEALED_FULL 26   /* the revealed list is full */
+
+/* A line of an exchange's list is refused: the calls of the lines before it stand. */
+#define JUNDRETHOL_BAD_LINE 31     /* the line breaks RFC 4180, or has not four fields */
+#define JUNDRETHOL_BAD_TIME 32     /* a time is malformed, or comes before the one that it must follow */
+#define JUNDRETHOL_SECONDS_FULL 33 /* the line is good, and there is no place for its call */
 
 /* The bytes of the largest sheet: a longer one is refused. */
 #define JUNDRETHOL_SHEET_LENGTH 59723
@@ -126,6 +131,27 @@ uint32_t jundrethol_encode(uint32_t field, uint32_t k, int64_t number, uint32_t 
 /* A field value read back as a signed number: itself up to (p - 1)/2, else minus p. Answers 0, or a refusal 2 or 5, which
  * sets the number to 0. */
 uint32_t jundrethol_decode(uint32_t field, uint32_t value, int64_t *number);
+
+/* Takes the calls from an exchange's list.
+ *
+ * list     is comma-separated text as RFC 4180 describes, without a header line. A line is one record of the RFC's grammar, ended by CR LF or
+ *          by the list's end: an empty list has no lines, and one CR LF at the end begins none. Its four fields are the name of the telephone
+ *          line, and when the call was dialled, answered and ended, in seconds of the quarter. Any field may be quoted. A time is one to seven
+ *          digits once its quotes are taken off. Answered may be empty, which means that nobody picked up.
+ * seconds  gets one number for each call, in order: ended minus answered, or 0 where nobody picked up.
+ * calls    gets how many numbers were written to seconds, 0 if none. It is one number, not a list.
+ *
+ * Past the calls written seconds is unchanged.
+ *
+ * Answers 0 when all lines are taken, or 31, 32 or 33. Lines are taken in turn, and the first that is refused decides; the calls of the lines
+ * before it stand, and calls counts them. 31: the bytes from there on are no record that CR LF or the list's end follows, or it has not four
+ * fields. 32: a time is malformed, answered comes before dialled, or ended before answered (before dialled if answered is empty). 33: the line
+ * is good, and seconds is full. A bad line is 31 or 32 though seconds is full.
+ */
+uint32_t jundrethol_import(
+    uint64_t *calls,
+    const uint8_t *list, size_t list_length,
+    uint32_t *seconds, size_t seconds_length);
 
 #ifdef __cplusplus
 }

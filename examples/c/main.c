@@ -1,4 +1,5 @@
-/* The paper's MUL sheet run through the C ABI, and a secret shared, recovered, encoded and decoded. Exits with 1 if an answer is wrong. */
+/* The paper's MUL sheet run through the C ABI, a secret shared, recovered, encoded and decoded, and calls taken from an exchange's list. Exits
+ * with 1 if an answer is wrong. */
 #include <inttypes.h>
 #include <stdio.h>
 #include <stdlib.h>
@@ -99,10 +100,35 @@ static void encode_and_decode(void)
     expect(jundrethol_encode(0, 3, 4, &value) == JUNDRETHOL_OUT_OF_RANGE && value == 0, "4 has more than 3 bits");
 }
 
+/* The text of examples/lists/three-calls.csv; examples/sheets/three-calls.sheet shares its calls. */
+static const char list[] =
+    "\"Booth 3, \"\"north\"\" hall\",1036800,1036807,1036986\r\n"
+    "\"Lift\r\ncar 2\",1040400,1040404,1040532\r\n"
+    "Gate,1044000,,1044030\r\n";
+
+static void import_calls(void)
+{
+    const uint8_t *bytes = (const uint8_t *)list;
+    uint32_t seconds[4] = {99, 99, 99, 99}, number;
+    uint64_t calls = 0;
+    number = jundrethol_import(&calls, bytes, COUNT(list) - 1, seconds, COUNT(seconds));
+    for (uint64_t i = 0; i < calls; i++)
+        printf("call %" PRIu32 "\n", seconds[i]);
+    printf("end %" PRIu32 " calls %" PRIu64 "\n", number, calls);
+    expect(number == JUNDRETHOL_DONE && calls == 3 && seconds[3] == 99, "the list has three calls");
+    expect(seconds[0] == 179 && seconds[1] == 128 && seconds[2] == 0, "a call lasts from its answer to its end");
+    /* There is room for two of the three; of a line that is cut off nothing is taken. */
+    seconds[2] = 99;
+    number = jundrethol_import(&calls, bytes, COUNT(list) - 1, seconds, 2);
+    expect(number == JUNDRETHOL_SECONDS_FULL && calls == 2 && seconds[2] == 99, "the calls before a refusal stand");
+    expect(jundrethol_import(&calls, bytes, 20, seconds, COUNT(seconds)) == JUNDRETHOL_BAD_LINE && calls == 0, "a quote is not closed");
+}
+
 int main(void)
 {
     run_sheet();
     share_and_recover();
     encode_and_decode();
+    import_calls();
     return 0;
 }

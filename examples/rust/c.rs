@@ -41,4 +41,6 @@ extern "C" {
     pub fn jundrethol_encode(field: u32, k: u32, number: i64, value: *mut u32) -> u32;
 
     pub fn jundrethol_decode(field: u32, value: u32, number: *mut i64) -> u32;
+
+    pub fn jundrethol_import(calls: *mut u64, list: *const u8, list_length: usize, seconds: *mut u32, seconds_length: usize) -> u32;
 }

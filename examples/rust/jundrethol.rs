@@ -81,3 +81,10 @@ pub fn decode(field: u32, value: u32) -> Result<i64, u32> {
     let mut number = 0;
     answer(unsafe { c::jundrethol_decode(field, value, &mut number) }, number)
 }
+
+/// The number, and how many calls were written to seconds: after a refusal those of the lines before.
+pub fn import(list: &[u8], seconds: &mut [u32]) -> (u32, u64) {
+    let mut calls = 0;
+    let number = unsafe { c::jundrethol_import(&mut calls, list.as_ptr(), list.len(), seconds.as_mut_ptr(), seconds.len()) };
+    (number, calls)
+}

@@ -1,4 +1,5 @@
-//! The paper's MUL sheet run through the C ABI, and a secret shared, recovered, encoded and decoded. Exits with 1 if an answer is wrong.
+//! The paper's MUL sheet run through the C ABI, a secret shared, recovered, encoded and decoded, and calls taken from an exchange's list. Exits
+//! with 1 if an answer is wrong.
 mod jundrethol;
 
 use std::process::exit;
@@ -62,8 +63,26 @@ fn encode_and_decode() {
     expect(jundrethol::encode(0, 3, 4) == Err(11), "4 has more than 3 bits");
 }
 
+/// examples/sheets/three-calls.sheet shares the calls of this list.
+const LIST: &[u8] = include_bytes!("../lists/three-calls.csv");
+
+fn import_calls() {
+    let mut seconds = [99; 4];
+    let (number, calls) = jundrethol::import(LIST, &mut seconds);
+    for call in seconds.iter().take(calls as usize) {
+        println!("call {call}");
+    }
+    println!("end {number} calls {calls}");
+    expect((number, calls) == (0, 3), "the list has three calls");
+    expect(seconds == [179, 128, 0, 99], "a call lasts from its answer to its end");
+    // There is room for two of the three; of a line that is cut off nothing is taken.
+    expect(jundrethol::import(LIST, &mut seconds[..2]) == (33, 2), "the calls before a refusal stand");
+    expect(jundrethol::import(&LIST[..20], &mut seconds) == (31, 0), "a quote is not closed");
+}
+
 fn main() {
     run_sheet();
     share_and_recover();
     encode_and_decode();
+    import_calls();
 }

@@ -1,31 +1,36 @@
-//! Holds the proved library to the reference: the stored sheets and calls, then drawn ones.
+//! Holds the proved library to the reference: the stored sheets, entries and lists, then drawn ones.
 //!
 //! `reference/link` builds it. Of a run are compared number, place and counts, marks, register
 //! cells, and both buffers to their last number; of a small entry (share, recover, encode, decode)
-//! number, value and the lent list. All that is written to is filled before with numbers that no
-//! run writes, so that a number too many, too few or left over is seen. The lists for registers,
-//! marks and counts are at times too short or too long.
+//! number, value and the lent list; of the import of a list of calls number, how many calls were
+//! written, and the buffer to its last number. All that is written to is filled before with numbers
+//! that are never written, so that a number too many, too few or left over is seen. The lists for
+//! registers, marks and counts are at times too short or too long.
 
 mod entries;
 mod library;
 mod words;
 
+use std::collections::BTreeMap;
 use std::process::ExitCode;
 
+use reference::calls;
+use reference::calls::drawn::list_for;
 use reference::case::Case;
 use reference::cases::generator::Generator;
 use reference::cases::{self, case_for};
-use reference::compare::{Entered, Lengths, Ran};
+use reference::compare::{Entered, Imported, Lengths, Ran};
 use reference::run_case;
 use reference::sheets::{self, sheet_for};
 
 const USAGE: &str = "\
 usage: compare SEED COUNT [FIRST]
 
-Compares the proved library with the reference: all stored sheets and calls, COUNT sheets drawn
-from SEED and the indices FIRST, FIRST + 1, ... (FIRST is 0 if left out), and 4 calls of small
-entries (share, recover, encode, decode) for each of them. The last line tells how many were
-compared and how many differ. Exits with 1 if any does, with 2 if the arguments are wrong.
+Compares the proved library with the reference: all that is stored, COUNT sheets drawn from SEED
+and the indices FIRST, FIRST + 1, ... (FIRST is 0 if left out), and for each of them 4 calls of
+small entries (share, recover, encode, decode) and the import of a list of calls. The last line
+tells how many were compared and how many differ. Exits with 1 if any does, with 2 if the arguments
+are wrong.
 
 Build it with bash reference/link, after rt staticlib jundrethol.";
 
@@ -35,18 +40,20 @@ const ENTRIES: u64 = 4;
 /// How many differences are listed.
 const LISTED: usize = 5;
 
-/// How many bytes of a sheet are listed.
+/// How many bytes of a sheet or a list are listed.
 const SHOWN: usize = 400;
 
 /// Apart from the sheet's own sequence, so that one does not decide the other.
 const LENGTHS_SEED: u64 = 0x5EED_0004;
 
+/// How many there were of each number.
+type Numbers = BTreeMap<u32, u64>;
+
 #[derive(Default)]
 struct Tally {
-    runs: u64,
-    /// How many runs ended with each number.
-    numbers: [u64; 27],
+    runs: Numbers,
     entries: u64,
+    imports: Numbers,
     differing: usize,
 }
 
@@ -56,8 +63,7 @@ impl Tally {
         let mut library = reference.clone();
         reference.by_reference(&case.sheet);
         library::run(&mut library, &case.sheet);
-        self.runs += 1;
-        self.numbers[reference.number as usize] += 1;
+        *self.runs.entry(reference.number).or_default() += 1;
         if let Some(difference) = reference.difference(&library) {
             let (record, revealed) = (case.record, case.revealed);
             let shown = &case.sheet[..case.sheet.len().min(SHOWN)];
@@ -78,6 +84,22 @@ impl Tally {
         }
     }
 
+    fn import(&mut self, name: &str, case: &calls::case::Case) {
+        let mut reference = Imported::before(case.lent);
+        let mut library = reference.clone();
+        reference.by_reference(&case.list);
+        library::import(&mut library, &case.list);
+        *self.imports.entry(reference.number).or_default() += 1;
+        if let Some(difference) = reference.difference(&library) {
+            let lent = case.lent;
+            let shown = case.list[..case.list.len().min(SHOWN)].escape_ascii();
+            let length = case.list.len();
+            self.differs(format!(
+                "{name}: {difference}\n  buffer {lent}\n  list of {length} bytes: {shown}"
+            ));
+        }
+    }
+
     fn differs(&mut self, lines: String) {
         if self.differing < LISTED {
             println!("{lines}");
@@ -90,7 +112,10 @@ impl Tally {
             self.run(&format!("stored sheet {place}"), case, Lengths::WHOLE);
         }
         for (place, case) in cases::all().iter().enumerate() {
-            self.entry(&format!("stored call {place}"), case);
+            self.entry(&format!("stored entry {place}"), case);
+        }
+        for (place, case) in calls::stored::all().iter().enumerate() {
+            self.import(&format!("stored list {place}"), case);
         }
     }
 
@@ -100,21 +125,28 @@ impl Tally {
         self.run(&format!("sheet {seed} {index}"), &case, lengths);
         for entry in 0..ENTRIES {
             let index = index.wrapping_mul(ENTRIES).wrapping_add(entry);
-            self.entry(&format!("call {seed} {index}"), &case_for(seed, index));
+            self.entry(&format!("entry {seed} {index}"), &case_for(seed, index));
         }
+        self.import(&format!("list {seed} {index}"), &list_for(seed, index));
     }
 
     fn tell(&self) {
-        let ends: Vec<_> = (self.numbers.iter().enumerate())
-            .filter(|(_, &count)| count > 0)
-            .map(|(number, count)| format!("{number}: {count}"))
-            .collect();
-        println!("runs by number: {}", ends.join(", "));
+        println!("runs by number: {}", told(&self.runs));
+        println!("lists by number: {}", told(&self.imports));
+        let (runs, imports) = (self.runs.values(), self.imports.values());
         println!(
-            "{} runs of sheets and {} calls of small entries compared, {} differ",
-            self.runs, self.entries, self.differing
+            "{} runs of sheets, {} calls of small entries and {} imports of lists compared, {} differ",
+            runs.sum::<u64>(),
+            self.entries,
+            imports.sum::<u64>(),
+            self.differing
         );
     }
+}
+
+fn told(numbers: &Numbers) -> String {
+    let told = |(number, count)| format!("{number}: {count}");
+    numbers.iter().map(told).collect::<Vec<_>>().join(", ")
 }
 
 /// SEED, COUNT and FIRST, or which word is wrong.

@@ -1,6 +1,6 @@
-//! The proved library's run, told like that of the reference.
+//! The proved library's run and import, told like those of the reference.
 
-use reference::compare::Ran;
+use reference::compare::{Imported, Ran};
 
 /// The example's functions, of which compare and bench call some.
 #[allow(dead_code)]
@@ -20,4 +20,9 @@ pub fn run(ran: &mut Ran, sheet: &[u8]) {
         &mut ran.marks,
         &mut ran.counts,
     );
+}
+
+/// Imports the list.
+pub fn import(imported: &mut Imported, list: &[u8]) {
+    (imported.number, imported.calls) = jundrethol::import(list, &mut imported.seconds);
 }

@@ -2,6 +2,7 @@
 
 use std::fmt::Display;
 
+use crate::calls;
 use crate::case::Case;
 use crate::cases::generator::Generator;
 use crate::run;
@@ -144,7 +145,40 @@ impl Entered {
     }
 }
 
-/// Numbers above every modulus, no two the same.
+/// What the import of a list answers, and all that it writes to.
+#[derive(Clone, Debug, PartialEq)]
+pub struct Imported {
+    pub number: u32,
+    pub calls: u64,
+    pub seconds: Vec<u32>,
+}
+
+impl Imported {
+    /// Before the import: numbers that none writes.
+    pub fn before(lent: usize) -> Imported {
+        Imported {
+            number: u32::MAX,
+            calls: u64::MAX,
+            seconds: filling(lent),
+        }
+    }
+
+    /// Imports the list by the reference.
+    pub fn by_reference(&mut self, list: &[u8]) {
+        let (number, calls) = calls::import(list, &mut self.seconds);
+        self.number = number;
+        self.calls = calls as u64;
+    }
+
+    /// Where the library's import differs first from this one, the reference's.
+    pub fn difference(&self, library: &Imported) -> Option<String> {
+        difference("number", self.number, library.number)
+            .or_else(|| difference("calls", self.calls, library.calls))
+            .or_else(|| list_difference("seconds", &self.seconds, &library.seconds))
+    }
+}
+
+/// Numbers above every modulus and every call's seconds, no two the same.
 fn filling(length: usize) -> Vec<u32> {
     (4_000_000_001..).take(length).collect()
 }
@@ -270,6 +304,30 @@ mod tests {
                 other.lent[place] ^= 1;
                 assert!(entered.difference(&other).is_some());
             }
+        }
+    }
+
+    #[test]
+    fn every_change_of_an_import_is_a_difference() {
+        let mut before = Imported::before(3);
+        let filling = [4_000_000_001, 4_000_000_002, 4_000_000_003];
+        assert_eq!(before.seconds, filling);
+        before.by_reference(b"a,1,2,9\r\nb");
+        let imported = before;
+        assert_eq!((imported.number, imported.calls), (31, 1));
+        assert_eq!(imported.seconds, [7, filling[1], filling[2]]);
+        assert_eq!(imported.difference(&imported.clone()), None);
+        let seen = |change: &dyn Fn(&mut Imported)| {
+            let mut other = imported.clone();
+            change(&mut other);
+            imported.difference(&other).expect("a difference")
+        };
+        let number = seen(&|other| other.number = 32);
+        assert_eq!(number, "number: reference 31, library 32");
+        let calls = seen(&|other| other.calls = 2);
+        assert_eq!(calls, "calls: reference 1, library 2");
+        for place in 0..3 {
+            seen(&|other| other.seconds[place] += 1);
         }
     }
 }

@@ -1,6 +1,7 @@
 //! Computes directly from the definitions what the proved library computes: sharing, recovery,
-//! signed coding, the steps, and the run of a whole sheet.
+//! signed coding, the steps, the run of a whole sheet, and the import of a list of calls.
 
+pub mod calls;
 pub mod case;
 pub mod cases;
 pub mod compare;

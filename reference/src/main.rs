@@ -1,31 +1,36 @@
-//! The command line: writes cases, their answers and example sheets, and prints the run of a sheet.
+//! The command line: writes cases, their answers and examples, and prints the run of a sheet and the
+//! import of a list.
 
 use std::io::{self, Read, Write};
 use std::process::ExitCode;
 
-use reference::{case, cases, line, model_cases, run_case, sheets, steps, table};
+use reference::{calls, case, cases, line, model_cases, run_case, sheets, steps, table};
 
 const USAGE: &str = "usage: reference WORD [NAME]    (reference --help says what each word does)";
 
-/// TABLES stands for the names of the model's tables, NAMES for those of the examples.
+/// TABLES stands for the names of the model's tables, SHEETS and LISTS for those of the examples.
 const HELP: &str = "\
 usage: reference WORD [NAME]
 
 Reads standard input where a word says so, and writes to standard output.
 
-cases            writes the stored calls of the small entries
-answers          reads such calls and writes their answers
-step-cases       writes the stored cases of the steps
-step-answers     writes the answers to those
-run-cases        writes the stored sheets, each with the lengths of its lent buffers
-run-answers      reads such sheets and writes all that each run leaves
-model-cases NAME writes one of the model's tables of cases; the names are TABLES
-table            reads a sheet and writes the lines of its run
-example NAME     writes an example sheet; the names are NAMES
-largest          writes a sheet that reaches every limit
-gate-sheets      writes the names of the further sheets that the gate runs, one to a line
-gate-sheet NAME  writes the sheet with such a name
---help           writes this
+cases             writes the stored calls of the small entries
+answers           reads such calls and writes their answers
+step-cases        writes the stored cases of the steps
+step-answers      writes the answers to those
+run-cases         writes the stored sheets, each with the lengths of its lent buffers
+run-answers       reads such sheets and writes all that each run leaves
+call-cases        writes the stored lists of calls, each with the length of its lent buffer
+call-answers      reads such lists and writes all that each import leaves
+model-cases NAME  writes one of the model's tables of cases; the names are TABLES
+table             reads a sheet and writes the lines of its run
+calls             reads a list of calls and writes the seconds of each, and the end of the import
+example NAME      writes an example sheet; the names are SHEETS
+example-list NAME writes an example list; the names are LISTS
+largest           writes a sheet that reaches every limit
+gate-sheets       writes the names of the further sheets that the gate runs, one to a line
+gate-sheet NAME   writes the sheet with such a name
+--help            writes this
 
 Exits with 1 if the work fails, with 2 if the words are wrong.
 ";
@@ -43,15 +48,19 @@ fn main() -> ExitCode {
         ["step-answers"] => step_answers(),
         ["run-cases"] => write_out(&all_bytes(&sheets::stored::all(), |case| case.to_bytes())),
         ["run-answers"] => run_answers(),
+        ["call-cases"] => write_out(&all_bytes(&calls::stored::all(), |case| case.to_bytes())),
+        ["call-answers"] => call_answers(),
         ["model-cases", name] => model_table(name),
         ["table"] => read_in().and_then(|sheet| write_out(table::lines(&sheet).as_bytes())),
+        ["calls"] => read_in().and_then(|list| write_out(calls::case::printed(&list).as_bytes())),
         ["example", name] => example(name),
+        ["example-list", name] => example_list(name),
         ["largest"] => write_out(&sheets::bench::largest()),
         ["gate-sheets"] => write_out(gate_names().as_bytes()),
         ["gate-sheet", name] => gate_sheet(name),
         ["--help"] => write_out(help().as_bytes()),
         [] => return refuse("a word is missing"),
-        ["example" | "gate-sheet" | "model-cases"] => {
+        ["example" | "example-list" | "gate-sheet" | "model-cases"] => {
             return refuse(&format!("{}: the NAME is missing", words[0]))
         }
         _ => return refuse(&format!("not understood: {}", words.join(" "))),
@@ -107,6 +116,13 @@ fn run_answers() -> Result<(), String> {
     write_out(lines.as_bytes())
 }
 
+/// Writes nothing unless every case can be read.
+fn call_answers() -> Result<(), String> {
+    let cases = calls::case::read_all(&read_in()?)?;
+    let lines: String = cases.iter().map(calls::case::lines).collect();
+    write_out(lines.as_bytes())
+}
+
 fn model_table(name: &str) -> Result<(), String> {
     let names = model_cases::NAMES.join(", ");
     let text = model_cases::text(name)
@@ -125,6 +141,17 @@ fn example_names() -> String {
     sheets::examples::NAMES.join(", ")
 }
 
+fn example_list(name: &str) -> Result<(), String> {
+    let names = list_names();
+    let list = calls::examples::named(name)
+        .ok_or_else(|| format!("no example list {name}; the lists are {names}"))?;
+    write_out(list)
+}
+
+fn list_names() -> String {
+    calls::examples::NAMES.join(", ")
+}
+
 fn gate_sheet(name: &str) -> Result<(), String> {
     let sheet = sheets::gate::named(name).ok_or_else(|| format!("no gate sheet {name}"))?;
     write_out(&sheet)
@@ -138,7 +165,8 @@ fn gate_names() -> String {
 
 fn help() -> String {
     HELP.replace("TABLES", &model_cases::NAMES.join(", "))
-        .replace("NAMES", &example_names())
+        .replace("SHEETS", &example_names())
+        .replace("LISTS", &list_names())
 }
 
 fn read_in() -> Result<Vec<u8>, String> {

@@ -1,16 +1,18 @@
 //! The text of the model's tables of cases (crates/model/specs), with the answers that this crate computes.
 
+use crate::calls::held as lists;
 use crate::case::Case;
 use crate::cases::held as calls;
 use crate::compare::Entered;
 use crate::sheets::held::{self as sheets, Held, Left};
 
-pub const NAMES: [&str; 5] = [
+pub const NAMES: [&str; 6] = [
     "SheetCases",
     "ScriptCases",
     "RunCases",
     "MaskCases",
     "EntryCases",
+    "CallCases",
 ];
 
 /// No line of a table is longer, but for a long comment.
@@ -20,38 +22,43 @@ const WIDTH: usize = 140;
 const RUN: usize = 10;
 
 /// A row's comment, and its parts, which stand on one line if they fit.
-type Row = (&'static str, Vec<String>);
+type Row = (String, Vec<String>);
 
 /// The file with this name.
 pub fn text(name: &str) -> Option<String> {
     match name {
         "SheetCases" => Some(file(
-            "\"Refused because of the input\": sheets that 1 to 8 refuse, and the last that they let through.",
+            "The paper, \"Refused because of the input\": sheets that 1 to 8 refuse, and the last that they let through.",
             ("Case", "sheetCases"),
             sheet_rows(&sheets::sheets()),
         )),
         "ScriptCases" => Some(file(
-            "\"Refused because of the input\": scripts that 9 to 11 refuse, and the last that they let through.",
+            "The paper, \"Refused because of the input\": scripts that 9 to 11 refuse, and the last that they let through.",
             ("Case", "scriptCases"),
             sheet_rows(&sheets::scripts()),
         )),
         "RunCases" => Some(file(
-            "\"Steps\" and \"Refused because of the state\": the commands that take no mask, and 21 to 26.",
+            "The paper, \"Steps\" and \"Refused because of the state\": the commands that take no mask, and 21 to 26.",
             ("Case", "runCases"),
             sheet_rows(&sheets::runs()),
         )),
         "MaskCases" => Some(file(
-            "\"Steps\": the commands that take a mask, with the rows that they open.",
+            "The paper, \"Steps\": the commands that take a mask, with the rows that they open.",
             ("Case", "maskCases"),
             sheet_rows(&sheets::masked()),
         )),
         "EntryCases" => Some(file(
-            "\"Fields and parties\": calls of the small entries, and what they answer.",
+            "The paper, \"Fields and parties\": calls of the small entries, and what they answer.",
             ("Entry", "entryCases"),
             calls::all()
                 .iter()
-                .map(|(says, call)| (*says, vec![entry(call)]))
+                .map(|(says, call)| (says.to_string(), vec![entry(call)]))
                 .collect(),
+        )),
+        "CallCases" => Some(file(
+            "The request \"Calls from the exchange's own list\": short lists, and what their import leaves.",
+            ("CallCase", "callCases"),
+            lists::all().iter().map(list_row).collect(),
         )),
         _ => None,
     }
@@ -64,7 +71,7 @@ fn file(subject: &str, (kind, name): (&str, &str), rows: Vec<Row>) -> String {
         used.map(|word| format!(", {word}")).collect()
     };
     let mut text = format!(
-        "-- The paper, {subject}\n\
+        "-- {subject}\n\
          -- The reference writes this table (reference model-cases).\n\
          -- Assumes nothing.\n\
          use mathlib.Core.List.{{List, [], _∷_{}}}\n",
@@ -84,6 +91,7 @@ fn file(subject: &str, (kind, name): (&str, &str), rows: Vec<Row>) -> String {
         "recovered",
         "encoded",
         "decoded",
+        "took",
     ]);
     text += &format!("use Rattle.model.specs.CaseForms.{{{kind}{forms}}}\n\n");
     text + &format!("unfoldable pub {name} : List {kind}\n{name} =\n{body}    ∷ []\n")
@@ -96,7 +104,7 @@ fn has_word(text: &str, word: &str) -> bool {
 /// Rows with the same comment stand under it together.
 fn body(rows: Vec<Row>) -> String {
     let mut body = String::new();
-    let mut said = "";
+    let mut said = String::new();
     let mut first = true;
     for (says, mut parts) in rows {
         if says != said {
@@ -134,7 +142,7 @@ fn wrapped(part: &str) -> String {
 
 fn sheet_rows(all: &[Held]) -> Vec<Row> {
     all.iter()
-        .map(|held| (held.says, sheet_row(held)))
+        .map(|held| (held.says.to_string(), sheet_row(held)))
         .collect()
 }
 
@@ -202,6 +210,33 @@ fn told(left: &Left) -> String {
         }
     }
     format!("({} ∷ [])", lists.join(" ∷ "))
+}
+
+/// The list's bytes and how many numbers are lent; the number, the calls written, and the whole buffer after the import.
+fn list_row(held: &lists::Held) -> Row {
+    let left = held.left();
+    let (lent, number, calls) = (held.lent, left.number, left.calls);
+    let (bytes, seconds) = (list(held.list), list(&left.seconds));
+    let row = vec![
+        format!("took {bytes}"),
+        format!("{lent} {number} {calls} {seconds}"),
+    ];
+    (shown(held), row)
+}
+
+/// What the list is for, and its text.
+fn shown(held: &lists::Held) -> String {
+    let byte = |&byte: &u8| match byte {
+        b'\r' => String::from("<CR>"),
+        b'\n' => String::from("<LF>"),
+        b' '..=b'~' => char::from(byte).to_string(),
+        _ => format!("<{byte:02X}>"),
+    };
+    let text: String = held.list.iter().map(byte).collect();
+    if text.is_empty() {
+        return held.says.to_string();
+    }
+    format!("{}: {text}", held.says)
 }
 
 /// The call, and what it answers. Encode and decode leave no list, and share has no value.
@@ -301,8 +336,9 @@ mod tests {
 
     #[test]
     fn each_row_has_its_comment_and_answer() {
-        let text = text("ScriptCases").unwrap();
         let row = "    -- 10: no END: the place is the script length\n    ∷ scripted 0 (1 ∷ 0 ∷ []) 10 2\n";
-        assert!(text.contains(row));
+        assert!(text("ScriptCases").unwrap().contains(row));
+        let row = "    -- 31: a line break alone is an empty line: <CR><LF>\n    ∷ took (13 ∷ 10 ∷ []) 1 31 0 (99 ∷ [])\n";
+        assert!(text("CallCases").unwrap().contains(row));
     }
 }

@@ -1,4 +1,4 @@
-//! The numbers that the entries and the run answer with.
+//! The numbers that the entries, the run and the import answer with.
 
 /// The arguments are accepted; the script ran to its END.
 pub const NONE: u32 = 0;
@@ -37,3 +37,10 @@ pub const NO_TRIPLES: u32 = 24;
 pub const RECORD_FULL: u32 = 25;
 /// The revealed list is full.
 pub const REVEALED_FULL: u32 = 26;
+
+/// A line is no record of RFC 4180, or has not four fields.
+pub const LINE: u32 = 31;
+/// A time is malformed, or comes before the one that it must follow.
+pub const TIME: u32 = 32;
+/// The buffer for the seconds is full.
+pub const SECONDS_FULL: u32 = 33;

@@ -1,8 +1,10 @@
-//! The files of examples/sheets are those that the reference makes, and the documents quote them.
+//! The files of examples/sheets and examples/lists are those that the reference makes, and the documents quote them.
 
 use std::fs;
 use std::path::PathBuf;
 
+use reference::calls::case::printed;
+use reference::calls::examples as lists;
 use reference::sheets::examples::{named, NAMES};
 use reference::table;
 
@@ -31,6 +33,28 @@ fn stored_sheets_and_their_lines_are_those_of_the_reference() {
     }
     let files = fs::read_dir(path("examples/sheets")).unwrap();
     assert_eq!(files.count(), 2 * NAMES.len());
+}
+
+#[test]
+fn stored_lists_and_their_lines_are_those_of_the_reference() {
+    for name in lists::NAMES {
+        let list = lists::named(name).unwrap();
+        assert!(read(&format!("examples/lists/{name}.csv")) == list);
+        assert_eq!(text(&format!("examples/lists/{name}.txt")), printed(list));
+    }
+    let files = fs::read_dir(path("examples/lists")).unwrap();
+    assert_eq!(files.count(), 2 * lists::NAMES.len());
+}
+
+/// The last line of an import, as `end 0 calls 3`.
+fn is_import_end(line: &str) -> bool {
+    line.starts_with("end ") && line.contains(" calls ")
+}
+
+/// Whether an example list's import ends with the line.
+fn ends_an_import(line: &str) -> bool {
+    let mut lists = lists::NAMES.into_iter().filter_map(lists::named);
+    lists.any(|list| printed(list).lines().last() == Some(line))
 }
 
 /// A line of a run, as `opened 5 6 7`.
@@ -67,6 +91,10 @@ impl Quoted {
     /// Holds an indented line to the example's sheet or to the lines of its run, which are quoted in
     /// their order. Whether it is a quotation.
     fn holds(&mut self, line: &str) -> bool {
+        if is_import_end(line) {
+            assert!(ends_an_import(line), "no example list ends so: {line}");
+            return true;
+        }
         let name = &self.name;
         let sheet = named(name).unwrap_or_else(|| panic!("no example {name}"));
         if is_printed(line) {

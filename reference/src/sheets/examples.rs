@@ -18,7 +18,8 @@ pub const NAMES: [&str; 7] = [
     "no-mask-left",
 ];
 
-const CALLS: [u32; 3] = [179, 128, 0];
+/// The seconds that three-calls shares.
+pub const CALLS: [u32; 3] = [179, 128, 0];
 
 /// The bytes of the sheet with this name.
 pub fn named(name: &str) -> Option<Vec<u8>> {

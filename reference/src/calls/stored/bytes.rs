@@ -1,0 +1,53 @@
+//! Every end of a range of bytes that the grammar has, and its neighbours outside, in a name
+//! without quotes and in one with quotes.
+
+use super::Told;
+use crate::refusal::{LINE, NONE};
+
+/// A byte, whether it may stand without quotes, and whether it may stand alone between quotes.
+const BYTES: [(u8, bool, bool); 22] = [
+    (0x00, false, false),
+    (0x09, false, false),
+    (0x0A, false, true),
+    (0x0B, false, false),
+    (0x0C, false, false),
+    (0x0D, false, true),
+    (0x0E, false, false),
+    (0x1F, false, false),
+    (0x20, true, true),
+    (0x21, true, true),
+    (0x22, false, false),
+    (0x23, true, true),
+    (0x2B, true, true),
+    (0x2D, true, true),
+    (0x2F, true, true),
+    (0x3A, true, true),
+    (0x7E, true, true),
+    (0x7F, false, false),
+    (0x80, false, false),
+    (0xA0, false, false),
+    (0xE9, false, false),
+    (0xFF, false, false),
+];
+
+/// In the last field too, whose end is the list's.
+pub fn all() -> Vec<Told> {
+    let mut all = Vec::new();
+    for (byte, plain, quoted) in BYTES {
+        all.push(told(&[&[b'a', byte], &b"b,1,2,4\r\n"[..]], plain));
+        all.push(told(&[&[b'"', b'a', byte], b"b\",1,2,4\r\n"], quoted));
+    }
+    for byte in [0x00, 0x09, 0x0A, 0x0D, 0x1F, 0x7F, 0x80, 0xFF] {
+        all.push(told(&[b"a,1,2,4", &[byte]], false));
+        all.push(told(&[b"a,1,2,\"4\"", &[byte]], false));
+    }
+    all
+}
+
+fn told(parts: &[&[u8]], is_read: bool) -> Told {
+    if is_read {
+        (parts.concat(), NONE, vec![2])
+    } else {
+        (parts.concat(), LINE, vec![])
+    }
+}
