@@ -17,12 +17,14 @@ use Rattle.model.specs.Costs.{costBy}
 use Rattle.model.specs.Sheet.{headerOf, headerSize, maskBits, largestIn, limits, impliedLength, scriptIn, rowsAt, masksFrom, triplesFrom, inputIn, dealIn, all, maskRows, tripleRows, spell, secrets, goodMask, goodTriple, headerTests, limitTests, lengthTests, rowTests, sheetTests, bytesOf, shareBytes}
 use Rattle.model.specs.Commands.{throughLines, registersFrom, command}
 use Rattle.model.specs.Run.{allSet, marked, check, pay, runLines, nothingSpent, start, written, outcome, runScript, stopOf, run}
-use Rattle.model.specs.CaseForms.{registersSeen, seen, Hold, EntriesHold}
+use Rattle.model.specs.Calls.{isTEXTDATA, alone, plain, quoted, field, isEnd, fields, readLine, isDigit, allDigits, spelt, time, lasting, call, fourFields, lineAt, lineNumber, taken, imported}
+use Rattle.model.specs.CaseForms.{registersSeen, seen, Hold}
 use Rattle.model.specs.SheetCases.{sheetCases}
 use Rattle.model.specs.ScriptCases.{scriptCases}
 use Rattle.model.specs.RunCases.{runCases}
 use Rattle.model.specs.MaskCases.{maskCases}
 use Rattle.model.specs.EntryCases.{entryCases}
+use Rattle.model.specs.CallCases.{callCases}
 use Rattle.model.specs.Cases.{checks, Cases}
 
 pub sheets-hold : Hold sheetCases
@@ -41,10 +43,14 @@ pub masked-hold : Hold maskCases
 unfolding add sub mul allBelow from onto tab row modulus bits largestK inUse fieldTests settingTests inverse inversePowerOf2 parties eval share newton reciprocal slope interpolate recover secret sameList isSharing number rowAt plus minus times constant value byRows comparisonFrom comparison spelled remainder floor sign overStep blocks byteSays allPass numberAt readingAt scriptFrom scriptOf costBy headerOf headerSize maskBits largestIn limits impliedLength scriptIn rowsAt masksFrom triplesFrom inputIn dealIn all maskRows tripleRows spell secrets goodMask goodTriple firstFailed headerTests limitTests lengthTests rowTests sheetTests bytesOf shareBytes allSet marked check pay registersFrom command throughLines runLines nothingSpent start written outcome runScript stopOf run registersSeen seen maskCases
 masked-hold = refl
 
-pub entries-hold : EntriesHold entryCases
+pub entries-hold : Hold entryCases
 unfolding add sub mul allBelow from tab row modulus largestK inUse fieldTests settingTests inverse parties inRange code readBack eval share newton reciprocal slope interpolate recover secret sameList isSharing firstFailed shareTests recoverTests encodeTests decodeTests shareLeft recoverValue recoverLeft encodeValue decodeValue entryCases
 entries-hold = refl
 
+pub calls-hold : Hold callCases
+unfolding onto firstFailed isTEXTDATA alone plain quoted field isEnd fields readLine isDigit allDigits spelt time lasting call fourFields lineAt lineNumber taken imported callCases
+calls-hold = refl
+
 pub cases : Cases
 unfolding firstFailed allSet check checks
-cases = record { sheets = sheets-hold; scripts = scripts-hold; runs = runs-hold; masked = masked-hold; order = refl; entries = entries-hold }
+cases = record { sheets = sheets-hold; scripts = scripts-hold; runs = runs-hold; masked = masked-hold; order = refl; entries = entries-hold; calls = calls-hold }

@@ -1,4 +1,4 @@
--- The forms of the rows in SheetCases, ScriptCases, RunCases, MaskCases and EntryCases: what the definitions give, and what the
+-- The forms of the rows in SheetCases, ScriptCases, RunCases, MaskCases, EntryCases and CallCases: what the definitions give, and what the
 -- reference answers by the paper.
 -- Assumes nothing.
 use mathlib.Core.Path.{_≡_}
@@ -13,6 +13,7 @@ use Rattle.model.specs.Steps.{Row}
 use Rattle.model.specs.Sheet.{shareBytes}
 use Rattle.model.specs.Counts.{listed}
 use Rattle.model.specs.Run.{Outcome, run}
+use Rattle.model.specs.Calls.{Imported, imported}
 
 -- a register that is set, its number before its cells; one that is unset is left out where its cells are 0
 abbrev pub oneSeen : ℕ → Bool → Row → List (List ℕ)
@@ -30,10 +31,18 @@ unfoldable pub seen : Outcome → List (List ℕ)
 seen x =
     (x .number ∷ x .place ∷ listed (x .counts)) ∷ x .log ∷ x .revealed ∷ registersSeen 0 (x .marks) (x .registers)
 
--- a run, and what the reference answers that it leaves
-pub record Case : Type 0 where
-  pub computed : List (List ℕ)
-  pub told : List (List ℕ)
+-- what the definitions give, and what the reference tells
+pub record Told (A : Type 0) : Type 0 where
+  pub computed : A
+  pub told : A
+
+-- the definitions give what the reference tells, row by row
+abbrev pub Hold : {A : Type 0} → List (Told A) → Type 0
+Hold cases = map (λ c. c .computed) cases ≡ map (λ c. c .told) cases
+
+-- a run, by all that it leaves
+abbrev pub Case : Type 0
+Case = Told (List (List ℕ))
 
 -- A sheet by its header's bytes, its script and its shares, run with a record and a revealed list of these lengths, each filled with 99.
 abbrev pub ran : List ℕ → List ℕ → List ℕ → ℕ → ℕ → List (List ℕ) → Case
@@ -50,10 +59,6 @@ stopped header script shares number place =
 abbrev pub scripted : ℕ → List ℕ → ℕ → ℕ → Case
 scripted f script number place = stopped (f ∷ 3 ∷ 1 ∷ 0 ∷ 0 ∷ 0 ∷ 0 ∷ 0 ∷ 0 ∷ length script ∷ 0 ∷ []) script [] number place
 
--- the definitions give what the reference answers, row by row
-abbrev pub Hold : List Case → Type 0
-Hold cases = map (λ c. c .computed) cases ≡ map (λ c. c .told) cases
-
 -- what an entry answers, 0 being the value of share, and the lent list that it leaves, which encode and decode do not have
 pub record Answer : Type 0 where
   pub number : ℕ
@@ -63,10 +68,9 @@ pub record Answer : Type 0 where
 abbrev pub answer : ℕ → ℤ → List ℕ → Answer
 answer number value left = record { number = number; value = value; left = left }
 
--- a call of an entry, and what the reference answers
-pub record Entry : Type 0 where
-  pub computed : Answer
-  pub told : Answer
+-- a call of an entry
+abbrev pub Entry : Type 0
+Entry = Told Answer
 
 -- share with field, n, t, secret and coefficients; recover with field, n, t and shares. The lent list has this length and is filled with 99.
 abbrev pub shared : ℕ → ℕ → ℕ → ℕ → List ℕ → ℕ → ℕ → List ℕ → Entry
@@ -90,5 +94,11 @@ encoded f k a number value =
 abbrev pub decoded : ℕ → ℕ → ℕ → ℤ → Entry
 decoded f v number value = record { computed = answer (decodeNumber f v) (decodeValue f v) []; told = answer number value [] }
 
-abbrev pub EntriesHold : List Entry → Type 0
-EntriesHold entries = map (λ e. e .computed) entries ≡ map (λ e. e .told) entries
+-- an import of a list
+abbrev pub CallCase : Type 0
+CallCase = Told Imported
+
+-- The buffer has this length and is filled with 99: number, how many calls, and the whole buffer after the import.
+abbrev pub took : List ℕ → ℕ → ℕ → ℕ → List ℕ → CallCase
+took list lent number calls left =
+    record { computed = imported list (replicate lent 99); told = record { number = number; calls = calls; out = left } }

@@ -7,12 +7,13 @@ use Prim.Native.Nat.{ℕ}
 use Rattle.model.specs.Counts.{noCounts}
 use Rattle.model.specs.Costs.{Cost}
 use Rattle.model.specs.Run.{check}
-use Rattle.model.specs.CaseForms.{Hold, EntriesHold}
+use Rattle.model.specs.CaseForms.{Hold}
 use Rattle.model.specs.SheetCases.{sheetCases}
 use Rattle.model.specs.ScriptCases.{scriptCases}
 use Rattle.model.specs.RunCases.{runCases}
 use Rattle.model.specs.MaskCases.{maskCases}
 use Rattle.model.specs.EntryCases.{entryCases}
+use Rattle.model.specs.CallCases.{callCases}
 
 -- "Tried before a command changes anything, in this order": 21 to 26. No command takes both an input row and a mask, so no sheet shows where 22
 -- stands in the order. Here a command reads register 0 and takes one of everything.
@@ -32,12 +33,13 @@ checks =
     ∷ checked true 1 1 1 3 0 ∷ checked true 1 1 1 3 1 ∷ checked false 1 1 1 3 1 ∷ checked true 0 1 1 3 1 ∷ checked true 1 0 1 3 1
     ∷ checked true 1 1 0 3 1 ∷ checked true 1 1 1 2 1 ∷ []
 
--- Each row of the five tables computes to what the reference, a separately written program, answers by the paper. It writes the tables, and
--- the proved programs `cases` and `entries` answer the same sheets and calls.
+-- Each row of the six tables computes to what the reference, a separately written program, answers by the paper. It writes the tables, and
+-- the proved programs `cases`, `entries` and `call_cases` answer the same sheets, calls and lists.
 pub record Cases : Type 0 where
   pub sheets : Hold sheetCases
   pub scripts : Hold scriptCases
   pub runs : Hold runCases
   pub masked : Hold maskCases
   pub order : checks ≡ 21 ∷ 22 ∷ 23 ∷ 24 ∷ 25 ∷ 26 ∷ 0 ∷ 21 ∷ 22 ∷ 23 ∷ 24 ∷ 25 ∷ []
-  pub entries : EntriesHold entryCases
+  pub entries : Hold entryCases
+  pub calls : Hold callCases

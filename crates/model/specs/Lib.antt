@@ -33,4 +33,5 @@ pub mod ScriptCases
 pub mod RunCases
 pub mod MaskCases
 pub mod EntryCases
+pub mod CallCases
 pub mod Cases
