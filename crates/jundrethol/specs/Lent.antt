@@ -9,6 +9,7 @@ use Rattle.algebra.specs.Lists.{onto}
 use Rattle.model.specs.Steps.{Row}
 use Rattle.model.specs.Counts.{listed}
 use Rattle.model.specs.Run.{Outcome}
+use Rattle.model.specs.Calls.{Imported}
 use Rattle.costs.specs.Costing.{countsOf}
 use Rattle.machine.specs.declared.run.Answer.{Answer}
 
@@ -41,3 +42,7 @@ pub record Handed (o : Outcome) (n : ℕ) (log₁ shown₁ cells₀ cells₁ mar
   pub registers : cells₁ ≡ lent (joined (o .registers)) cells₀
   pub marks : marks₁ ≡ lent (flags (o .marks)) marks₀
   pub counts : counts₁ ≡ lent (o .place ∷ listed (o .counts)) counts₀
+
+-- an import as C gets it: the number, how many calls were written, and the list of their seconds to its last number
+abbrev pub brought : ℕ → ℕ → List ℕ → Imported
+brought number calls seconds = record { number = number; calls = calls; out = seconds }
