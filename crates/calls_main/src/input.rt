@@ -1,4 +1,5 @@
 // Standard input, whole or not at all.
+ghost use Prim.Native.Nat.{_+_, _≤_};
 ghost use lib.ListN.{length};
 ghost use Rattle.calls_main.specs.Reading.{Within};
 use libc::STDIN_FILENO;
@@ -10,28 +11,44 @@ pub enum Input {
     Failed,
 }
 
-// What it means that a read moved no byte.
-fn ended(got: isize, done: usize) -> Input
-    ensures { λ r. ⌜ Within done r ⌝ }
+// What one read brought.
+struct Part {
+    bytes: usize,
+    failed: bool,
+}
+
+fn read_part(part: &mut [u8]) -> Part
+    ensures { λ r. ⌜ r .bytes ≤ length (now (part .entry)) ⌝ }
 {
-    if got < 0 {
-        Input::Failed
-    } else {
-        Input::Whole(done)
+    let got = libc::read(STDIN_FILENO, part);
+    Part {
+        bytes: io::count(got, part),
+        failed: got < 0,
     }
 }
 
-pub fn read_all(bytes: &mut [u8]) -> Input
-    ensures { λ r. ⌜ Within (length (now (bytes .entry))) r ⌝ }
+// One read, into the list from a place on.
+fn read_from(list: &mut [u8], done: usize) -> Part
+    requires { ⌜ done ≤ length (now list) ⌝ }
+    ensures { λ r. ⌜ done + r .bytes ≤ length (now (list .entry)) ⌝ }
+{
+    read_part(&mut list[done..])
+}
+
+// A read that brings no byte is the input's end, unless it failed.
+pub fn read_all(list: &mut [u8]) -> Input
+    ensures { λ r. ⌜ Within (length (now (list .entry))) r ⌝ }
 {
     let mut done = 0;
-    while done < bytes.len() {
-        let got = libc::read(STDIN_FILENO, &mut bytes[done..]);
-        let more = io::count(got, &bytes[done..]);
-        if more == 0 {
-            return ended(got, done);
+    while done < list.len() {
+        let part = read_from(list, done);
+        if part.failed {
+            return Input::Failed;
         }
-        done += more;
+        if part.bytes == 0 {
+            return Input::Whole(done);
+        }
+        done += part.bytes;
     }
     Input::TooLong
 }
