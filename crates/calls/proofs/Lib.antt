@@ -1,3 +1,4 @@
+pub mod Tested
 pub mod Times
 pub mod Places
 pub mod Scanning

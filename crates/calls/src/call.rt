@@ -1,5 +1,6 @@
 // How long a call lasted: "ended minus answered, or 0 for no answer".
 ghost use mathlib.Core.Path.{_≡_};
+ghost use Prim.Native.Nat.{_-_, _≤_};
 ghost use Rattle.model.specs.Calls as Calls;
 ghost use Rattle.calls.specs.Meaning.{timeOf, callOf};
 use crate::time::Time;
@@ -19,6 +20,16 @@ fn wrong() -> Call
     }
 }
 
+fn lasted(from: u32, to: u32) -> Call
+    requires { ⌜ from ≤ to ⌝ }
+    ensures { λ r. ⌜ callOf r ≡ Calls.lasted (to - from) ⌝ }
+{
+    Call {
+        timed: true,
+        seconds: to - from,
+    }
+}
+
 fn picked_up(dialled: u32, answered: u32, ended: u32) -> Call
     ensures { λ r. ⌜ callOf r ≡ Calls.lasting dialled ended (Calls.at answered) ⌝ }
 {
@@ -28,10 +39,7 @@ fn picked_up(dialled: u32, answered: u32, ended: u32) -> Call
     if ended < answered {
         return wrong();
     }
-    Call {
-        timed: true,
-        seconds: ended - answered,
-    }
+    lasted(answered, ended)
 }
 
 fn not_picked_up(dialled: u32, ended: u32) -> Call

@@ -33,11 +33,8 @@ fn line_number(line: Line, room: usize) -> u32
     ensures { λ r. ⌜ ((s : List ℕ) → r ≡ Calls.lineNumber room (lineOf s line)) ⌝ }
 {
     let call = line.call;
-    failed(
-        line.found,
-        31,
-        failed(call.timed, 32, failed(0 < room, 33, 0)),
-    )
+    let others = failed(call.timed, 32, failed(0 < room, 33, 0));
+    failed(line.found, 31, others)
 }
 
 // What a line leaves: its number, and where that is 0 its call and the place after it.

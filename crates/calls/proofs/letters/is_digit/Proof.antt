@@ -7,4 +7,4 @@ use Rattle.calls.proofs.letters.is_digit.Tie as tie
 
 pub is-digit-spec : {M : Type 1} → statement M
 unfolding isDigit
-is-digit-spec = tie.close (tie.spec (λ c κs. search needs) (λ c. cc))
+is-digit-spec = tie.close (tie.spec (λ c κs. search needs) (λ c. search needs))
