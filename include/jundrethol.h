@@ -144,9 +144,9 @@ uint32_t jundrethol_decode(uint32_t field, uint32_t value, int64_t *number);
  * Past the calls written seconds is unchanged.
  *
  * Answers 0 when all lines are taken, or 31, 32 or 33. Lines are taken in turn, and the first that is refused decides; the calls of the lines
- * before it stand, and calls counts them. 31: the bytes from there on are no record that CR LF or the list's end follows, or it has not four
- * fields. 32: a time is malformed, answered comes before dialled, or ended before answered (before dialled if answered is empty). 33: the line
- * is good, and seconds is full. A bad line is 31 or 32 though seconds is full.
+ * before it stand, and calls counts them. 31: the bytes from there on do not begin with a record that CR LF or the list's end follows, or it
+ * has not four fields. 32: a time is malformed, answered comes before dialled, or ended before answered (before dialled if answered is empty).
+ * 33: the line is good, and seconds is full. A bad line is 31 or 32 though seconds is full.
  */
 uint32_t jundrethol_import(
     uint64_t *calls,
