@@ -1,4 +1,4 @@
-/* How deep the stack goes in a run of each sheet named, and in each small entry: a call is made on a stack that was filled with one byte, and
+/* How deep the stack goes in a run of each sheet named, in each small entry, and in an import: a call is made on a stack that was filled with one byte, and
  * the lowest byte that changed tells. Two fillings, so that a byte that happens to be the filling is seen. Exits with 1 if a call goes deeper
  * than JUNDRETHOL_STACK, or fails. */
 #define _GNU_SOURCE
@@ -52,6 +52,15 @@ static void decode(void)
     jundrethol_decode(3, value, &number);
 }
 
+static void import(void)
+{
+    static const uint8_t list[] = "\"Hall, \"\"north\"\"\",0000001,0000002,\"0000180\"\r\nGate,5,,6\r\nGate,5,4,6";
+    static uint32_t seconds[3];
+    static uint64_t calls;
+    top = (uintptr_t)__builtin_frame_address(0);
+    jundrethol_import(&calls, list, sizeof list - 1, seconds, 3);
+}
+
 static size_t depth(void (*call)(void), int filling)
 {
     memset(stack, filling, sizeof stack);
@@ -85,6 +94,7 @@ int main(int count, char **names)
         fclose(file);
         good &= fits(names[i], run);
     }
-    good &= fits("share", share) & fits("recover", recover) & fits("encode", encode) & fits("decode", decode);
+    good &= fits("share", share) & fits("recover", recover) & fits("encode", encode) & fits("decode", decode)
+            & fits("import", import);
     return good ? 0 : 1;
 }

@@ -30,7 +30,7 @@ extern "C" {
 #endif
 
 /* The version of this header and of the archive that is built beside it. While the first number stays, refusals and places in counts keep their
- * numbers, functions their parameters, and a call that answers 0 or 21 to 26 leaves the same values. A higher second number may add functions,
+ * numbers, functions their parameters, and a call that answers 0, 21 to 26 or 31 to 33 leaves the same values. A higher second number may add functions,
  * refusals, and counts after the last, and may run what was refused with 1 to 20. */
 #define JUNDRETHOL_VERSION_MAJOR 1
 #define JUNDRETHOL_VERSION_MINOR 1
@@ -141,7 +141,8 @@ uint32_t jundrethol_decode(uint32_t field, uint32_t value, int64_t *number);
  * seconds  gets one number for each call, in order: ended minus answered, or 0 where nobody picked up.
  * calls    gets how many numbers were written to seconds, 0 if none. It is one number, not a list.
  *
- * Past the calls written seconds is unchanged.
+ * Past the calls written seconds is unchanged. (list_length + 2) / 7 numbers take the calls of every list of that length, so with so many it
+ * never answers 33.
  *
  * Answers 0 when all lines are taken, or 31, 32 or 33. Lines are taken in turn, and the first that is refused decides; the calls of the lines
  * before it stand, and calls counts them. 31: the bytes from there on do not begin with a record that CR LF or the list's end follows, or it
