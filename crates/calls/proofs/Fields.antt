@@ -10,7 +10,7 @@ use borrow.Author.Tests.{lt-ltb, le-ltb, eq-eqb, ne-eqb}
 use lib.ListN.{length, getD, take, drop, length-drop, drop-of-length-le}
 use lib.Seq.{take-all, drop-drop, drop-cons}
 use Rattle.algebra.proofs.Tests.{true-false}
-use Rattle.model.specs.Calls.{COMMA, DQUOTE, Reading, found, missing, plain, quoted, field, Time, time}
+use Rattle.model.specs.Calls.{COMMA, DQUOTE, Parsed, found, unread, plain, quoted, field, Time, time}
 use Rattle.calls.specs.declared.field.Field.{Field}
 use Rattle.calls.specs.Meaning.{timedField, closedAt, fieldOf, afterComma, isFirst}
 
@@ -23,7 +23,7 @@ module _ (text : List ℕ) (size : ℕ) (e : closedAt (take (length text - 1) (d
   here : closedAt (drop 1 text) size ≡ timedField (quoted (drop 1 text))
   here = rw (rest-from 1 text) at e
 
-  pub not-closed : {x : Reading Time} → length text - 1 ≤ size → x ≡ missing → x ≡ timedField (quoted (drop 1 text))
+  pub not-closed : {x : Parsed Time} → length text - 1 ≤ size → x ≡ unread → x ≡ timedField (quoted (drop 1 text))
   unfolding closedAt
   not-closed h q = q ∙ (rw (le-ltb size (length (drop 1 text)) (rw length-drop h)) at here)
 
@@ -41,13 +41,13 @@ unfolding isFirst
 quote-some [] q e = absurd (true-false (sym e ∙ q))
 quote-some (b ∷ s) q e = omega arith
 
-pub is-escaped : (text : List ℕ) {r : Bool} {x : Reading Time} → r ≡ isFirst DQUOTE (drop 0 text) → r ≡ true → x ≡ timedField (quoted (drop 1 text))
+pub is-escaped : (text : List ℕ) {r : Bool} {x : Parsed Time} → r ≡ isFirst DQUOTE (drop 0 text) → r ≡ true → x ≡ timedField (quoted (drop 1 text))
     → x ≡ timedField (field text)
 unfolding field isFirst
 is-escaped [] q e f = absurd (true-false (sym e ∙ q))
 is-escaped (b ∷ s) q e f = f ∙ rw (← q, e) refl
 
-pub is-plain : (text : List ℕ) {r : Bool} {x : Reading Time} → r ≡ isFirst DQUOTE (drop 0 text) → r ≡ false → x ≡ timedField (plain text)
+pub is-plain : (text : List ℕ) {r : Bool} {x : Parsed Time} → r ≡ isFirst DQUOTE (drop 0 text) → r ≡ false → x ≡ timedField (plain text)
     → x ≡ timedField (field text)
 unfolding field plain isFirst
 is-plain [] q e f = f
@@ -61,24 +61,24 @@ field-from text at f g e q =
     rw (q, ← drop-drop (f .next) at text) (rw (rest-from at text) at e)
 
 -- after a comma, and where there is none
-after-it : {x : Reading Time} (t : Time) (s : List ℕ) → isFirst COMMA s ≡ true → x ≡ timedField (field (drop 1 s)) → x ≡ afterComma (found t s)
+after-it : {x : Parsed Time} (t : Time) (s : List ℕ) → isFirst COMMA s ≡ true → x ≡ timedField (field (drop 1 s)) → x ≡ afterComma (found t s)
 unfolding isFirst afterComma
 after-it t [] q e = absurd (true-false (sym q))
 after-it t (b ∷ s) q e = rw q e
 
-none-after : {x : Reading Time} (t : Time) (s : List ℕ) → isFirst COMMA s ≡ false → x ≡ missing → x ≡ afterComma (found t s)
+none-after : {x : Parsed Time} (t : Time) (s : List ℕ) → isFirst COMMA s ≡ false → x ≡ unread → x ≡ afterComma (found t s)
 unfolding isFirst afterComma
 none-after t [] q e = e
 none-after t (b ∷ s) q e = rw q e
 
 -- by whether there is a field before, and a comma after it
-comma-there : (f : Bool) (t : Time) (s : List ℕ) {x : Reading Time} → f && isFirst COMMA s ≡ true → x ≡ timedField (field (drop 1 s))
-    → x ≡ afterComma (cond f (found t s) missing)
+comma-there : (f : Bool) (t : Time) (s : List ℕ) {x : Parsed Time} → f && isFirst COMMA s ≡ true → x ≡ timedField (field (drop 1 s))
+    → x ≡ afterComma (cond f (found t s) unread)
 comma-there true t s q e = after-it t s q e
 comma-there false t s q e = absurd (true-false (sym q))
 
-no-comma-there : (f : Bool) (t : Time) (s : List ℕ) {x : Reading Time} → f && isFirst COMMA s ≡ false → x ≡ missing
-    → x ≡ afterComma (cond f (found t s) missing)
+no-comma-there : (f : Bool) (t : Time) (s : List ℕ) {x : Parsed Time} → f && isFirst COMMA s ≡ false → x ≡ unread
+    → x ≡ afterComma (cond f (found t s) unread)
 unfolding afterComma
 no-comma-there true t s q e = none-after t s q e
 no-comma-there false t s q e = e
@@ -99,10 +99,10 @@ module _ (text : List ℕ) (before : Field) {r : Bool} {p : Bool} (q : r ≡ (be
   pub within : r ≡ true → before .next < length text
   within e = comma-within (before .found) (before .next) text (here-is ∙ e)
 
-  pub comma : {x : Reading Time} → r ≡ true → x ≡ timedField (field (drop (before .next + 1) text)) → x ≡ afterComma (fieldOf text before)
+  pub comma : {x : Parsed Time} → r ≡ true → x ≡ timedField (field (drop (before .next + 1) text)) → x ≡ afterComma (fieldOf text before)
   unfolding fieldOf
   comma e f = comma-there (before .found) _ _ (here-is ∙ e) (f ∙ ap (λ s. timedField (field s)) (sym (drop-drop 1 (before .next) text)))
 
-  pub no-comma : {x : Reading Time} → r ≡ false → x ≡ missing → x ≡ afterComma (fieldOf text before)
+  pub no-comma : {x : Parsed Time} → r ≡ false → x ≡ unread → x ≡ afterComma (fieldOf text before)
   unfolding fieldOf
   no-comma e f = no-comma-there (before .found) _ _ (here-is ∙ e) f

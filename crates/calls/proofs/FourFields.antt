@@ -8,14 +8,14 @@ use lib.ListN.{length, drop}
 use native.Mathlib.Omega.{arith}
 use Rattle.algebra.proofs.Tests.{true-false}
 use Rattle.model.specs.Calls as Calls
-use Rattle.model.specs.Calls.{Reading, found, missing, field, isEnd, Time, lasting, timed, lineAt}
+use Rattle.model.specs.Calls.{Parsed, found, unread, field, isEnd, Time, lasting, timed, lineAt}
 use Rattle.calls.specs.declared.field.Field.{Field}
 use Rattle.calls.specs.declared.call.Call.{Call}
 use Rattle.calls.specs.declared.line.Line.{Line}
 use Rattle.calls.specs.Meaning.{timeOf, timedField, fieldOf, afterComma, callOf, lineOf}
 use Rattle.calls.proofs.Lines.{timeIn, callBy, lineFrom, line-from}
 
-apart : {A : Type 0} {x : A} {rest : List ℕ} → found x rest ≡ missing → ⊥
+apart : {A : Type 0} {x : A} {rest : List ℕ} → found x rest ≡ unread → ⊥
 apart e = let z : _≡_ {A = ℕ} 0 1 = cc in omega arith
 
 -- a field that is there comes after one that is there
@@ -25,7 +25,7 @@ comes-after text f g e h = go (f .found) refl
   where
     go : (r : Bool) → f .found ≡ r → f .found ≡ true
     go true q = q
-    go false q = absurd (apart (sym (ap (λ b. cond b (found (timeOf (g .time)) (drop (g .next) text)) missing) h) ∙ e ∙ ap (λ b. afterComma (cond b (found (timeOf (f .time)) (drop (f .next) text)) missing)) q))
+    go false q = absurd (apart (sym (ap (λ b. cond b (found (timeOf (g .time)) (drop (g .next) text)) unread) h) ∙ e ∙ ap (λ b. afterComma (cond b (found (timeOf (f .time)) (drop (f .next) text)) unread)) q))
 
 there : (text : List ℕ) (f : Field) → f .found ≡ true → timeIn (fieldOf text f) ≡ timeOf (f .time)
 unfolding fieldOf
@@ -34,7 +34,7 @@ there text f h = rw h refl
 -- the line's last field, by whether it is there
 last-of : (text : List ℕ) (ts : List Time) (r : Bool) (t : Time) (at next : ℕ) (e : Bool) (call : Calls.Call) → e ≡ isEnd (drop at text)
     → drop next text ≡ drop 2 (drop at text) → (r ≡ true → call ≡ callBy (ts ++ (t ∷ [])))
-    → cond (r && e) (found call (drop next text)) missing ≡ lineFrom 0 ts (cond r (found t (drop at text)) missing)
+    → cond (r && e) (found call (drop next text)) unread ≡ lineFrom 0 ts (cond r (found t (drop at text)) unread)
 unfolding lineFrom
 last-of text ts true t at next e call q d h = rw (← q, ← d, ← h refl) refl
 last-of text ts false t at next e call q d h = refl
@@ -49,7 +49,7 @@ module _ (text : List ℕ) (name dialled answered ended : Field)
   chain = line-from text ∙ rw (fourth, third, second, first) refl
 
   pub four-fields : {e r : Bool} (next : ℕ) (call : Call) → e ≡ isEnd (drop (ended .next) text) → drop next text ≡ drop 2 (drop (ended .next) text)
-      → callOf call ≡ timed (timeOf (dialled .time)) (λ d. timed (timeOf (ended .time)) (λ z. lasting d z (timeOf (answered .time))))
+      → callOf call ≡ timed (timeOf (dialled .time)) (λ d. timed (timeOf (ended .time)) (λ z. lasting d (timeOf (answered .time)) z))
       → r ≡ (ended .found && e)
       → lineOf text (record { found = r; call = call; next = next }) ≡ lineAt text
   unfolding lineOf fieldOf

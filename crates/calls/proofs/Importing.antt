@@ -12,7 +12,7 @@ use lib.ListN.{length, getD, set, take, drop, length-append, length-drop, drop-o
 use lib.Seq.{drop-cons, drop-drop, set-at}
 use Rattle.algebra.specs.Lists.{onto}
 use Rattle.algebra.proofs.Lists.{length-onto}
-use Rattle.model.specs.Calls.{Reading, found, missing, Call, lasted, wrong, lineAt, isLine, isTimed, secondsOf, nextOf, lineNumber, Taken, ended, withCall, turn, taken, Imported, imported}
+use Rattle.model.specs.Calls.{Parsed, found, unread, Call, lasted, wrong, lineAt, isLine, isTimed, secondsOf, nextOf, lineNumber, Taken, stopsWith, withCall, turn, taken, Imported, imported}
 use Rattle.model.specs.Refusing.{firstFailed, given}
 use Rattle.calls.specs.declared.Turn.{Turn}
 use Rattle.calls.specs.Meaning.{Turned}
@@ -22,13 +22,13 @@ by-number zero x h = absurd (h refl)
 by-number (suc n) x h = refl
 
 -- what a line that is not refused leaves
-pub no-room : (x : Reading Call) → lineNumber 0 x ≢ 0
+pub no-room : (x : Parsed Call) → lineNumber 0 x ≢ 0
 unfolding lineNumber firstFailed
 no-room (found (lasted c) next) e = absurd (omega (arith, e))
 no-room (found wrong next) e = absurd (omega (arith, e))
-no-room missing e = absurd (omega (arith, e))
+no-room unread e = absurd (omega (arith, e))
 
-refused-line : (room : ℕ) (text : List ℕ) → 1 ≤ length text → lineNumber room (lineAt text) ≢ 0 → taken room text ≡ ended (lineNumber room (lineAt text))
+refused-line : (room : ℕ) (text : List ℕ) → 1 ≤ length text → lineNumber room (lineAt text) ≢ 0 → taken room text ≡ stopsWith (lineNumber room (lineAt text))
 unfolding taken
 refused-line room [] h k = absurd (omega arith)
 refused-line zero (b ∷ s) h k = by-number _ _ k
@@ -41,7 +41,7 @@ taken-line room [] h e = absurd (omega arith)
 taken-line zero (b ∷ s) h e = absurd (no-room (lineAt (b ∷ s)) e)
 taken-line (suc room) (b ∷ s) h e = (omega arith, rw e (let z : suc room - 1 ≡ room = omega arith in rw z refl))
 
-taken-none : (room : ℕ) → taken room [] ≡ ended 0
+taken-none : (room : ℕ) → taken room [] ≡ stopsWith 0
 unfolding taken
 taken-none zero = refl
 taken-none (suc room) = refl
@@ -74,7 +74,7 @@ module _ {list out₀ out : List ℕ} {at calls : ℕ} (I : Importing list out�
   out-length = rw (I .written) (length-onto (I .seconds) out₀ (omega (arith, I .many, I .fits)))
 
   -- what is answered where the lines end with a number
-  pub ends-with : {n : ℕ} → taken (length out₀ - calls) (drop at list) ≡ ended n → record { number = n; calls = calls; out = out } ≡ imported list out₀
+  pub ends-with : {n : ℕ} → taken (length out₀ - calls) (drop at list) ≡ stopsWith n → record { number = n; calls = calls; out = out } ≡ imported list out₀
   unfolding imported
   ends-with {n} e =
       let t : taken (length out₀) list ≡ record { number = n; seconds = I .seconds } = I .rest ∙ ap (withCalls (I .seconds)) e ∙ ap (λ cs. record { number = n; seconds = cs }) (append-nil (I .seconds)) in
@@ -95,7 +95,7 @@ module _ {list out₀ out : List ℕ} {at calls : ℕ} (I : Importing list out�
     some = rw length-drop (omega arith)
 
     pub importing-stops : turn .number ≢ 0 → record { number = turn .number; calls = calls; out = out } ≡ imported list out₀
-    importing-stops k = ends-with (refused-line _ (drop at list) some (λ z. k (sym number-is ∙ z)) ∙ ap ended number-is)
+    importing-stops k = ends-with (refused-line _ (drop at list) some (λ z. k (sym number-is ∙ z)) ∙ ap stopsWith number-is)
 
     module _ (z : turn .number ≡ 0) where
       one-taken : (1 ≤ length out₀ - calls) × (taken (length out₀ - calls) (drop at list) ≡ withCall (turn .seconds) (taken (length out₀ - (calls + 1)) (drop (turn .next) list)))

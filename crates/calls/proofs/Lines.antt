@@ -10,26 +10,26 @@ use borrow.Author.Tests.{eq-eqb, ne-eqb, eqb-true}
 use lib.Dec.{eqb}
 use lib.ListN.{length, getD, drop, length-append}
 use Rattle.algebra.proofs.Tests.{choice}
-use Rattle.model.specs.Calls.{COMMA, CRLF, Reading, found, missing, withByte, isTEXTDATA, alone, DQUOTE, plain, quoted, field, isEnd, withField, afterField, fields, readLine, Time, none, malformed, time, Call, lasting, timed, call, fourFields, lineAt}
+use Rattle.model.specs.Calls.{COMMA, CRLF, Parsed, found, unread, withByte, isTEXTDATA, alone, DQUOTE, plain, quoted, field, isEnd, withField, afterField, fields, readLine, Time, absent, malformed, time, Call, lasting, timed, call, fourFields, lineAt}
 use Rattle.calls.specs.Meaning.{timedField, afterComma}
 
 -- what a field leaves is no longer than the text
-abbrev Within : ℕ → Reading (List ℕ) → Type 0
+abbrev Within : ℕ → Parsed (List ℕ) → Type 0
 Within n (found v rest) = length rest ≤ n
-Within n missing = Unit {0}
+Within n unread = Unit {0}
 
-within-byte : (n b : ℕ) (x : Reading (List ℕ)) → Within n x → Within (suc n) (withByte b x)
+within-byte : (n b : ℕ) (x : Parsed (List ℕ)) → Within n x → Within (suc n) (withByte b x)
 within-byte n b (found v rest) h = omega arith
-within-byte n b missing h = tt
+within-byte n b unread h = tt
 
 within-plain : (s : List ℕ) → Within (length s) (plain s)
 unfolding plain
 within-plain [] = omega arith
 within-plain (b ∷ s) = choice (Within (suc (length s))) (isTEXTDATA b) (λ e. within-byte (length s) b (plain s) (within-plain s)) (λ e. omega arith)
 
-within-more : (n m : ℕ) (x : Reading (List ℕ)) → n ≤ m → Within n x → Within m x
+within-more : (n m : ℕ) (x : Parsed (List ℕ)) → n ≤ m → Within n x → Within m x
 within-more n m (found v rest) k h = omega arith
-within-more n m missing k h = tt
+within-more n m unread k h = tt
 
 within-quoted : (s : List ℕ) → Within (length s) (quoted s)
 unfolding quoted
@@ -49,63 +49,63 @@ within-field (b ∷ s) =
 
 -- the call of four fields by their times alone
 abbrev pub callBy : List Time → Call
-callBy ts = timed (getD ts 1 none) (λ dialled. timed (getD ts 3 none) (λ ended. lasting dialled ended (getD ts 2 none)))
+callBy ts = timed (getD ts 1 absent) (λ dialled. timed (getD ts 3 absent) (λ ended. lasting dialled (getD ts 2 absent) ended))
 
-getD-times : (fs : List (List ℕ)) (i : ℕ) → getD (map time fs) i none ≡ time (getD fs i [])
+getD-times : (fs : List (List ℕ)) (i : ℕ) → getD (map time fs) i absent ≡ time (getD fs i [])
 unfolding time
 getD-times [] i = refl
 getD-times (f ∷ fs) zero = refl
 getD-times (f ∷ fs) (suc i) = getD-times fs i
 
-call-by : (fs : List (List ℕ)) → call fs ≡ callBy (map time fs)
+call-by : (fs : List (List ℕ)) → call (getD fs 1 []) (getD fs 2 []) (getD fs 3 []) ≡ callBy (map time fs)
 unfolding call
 call-by fs = rw (getD-times fs 1, getD-times fs 2, getD-times fs 3) refl
 
 -- what a field says as a time, where it is not missing
-abbrev pub timeIn : Reading Time → Time
+abbrev pub timeIn : Parsed Time → Time
 timeIn (found t rest) = t
-timeIn missing = malformed
+timeIn unread = malformed
 
 -- the line from a field on, with so many fields after it, by the times of those before it
-unfoldable pub lineFrom : ℕ → List Time → Reading Time → Reading Call
-lineFrom zero ts (found t rest) = cond (isEnd rest) (found (callBy (ts ++ (t ∷ []))) (drop (length CRLF) rest)) missing
-lineFrom zero ts missing = missing
+unfoldable pub lineFrom : ℕ → List Time → Parsed Time → Parsed Call
+lineFrom zero ts (found t rest) = cond (isEnd rest) (found (callBy (ts ++ (t ∷ []))) (drop (length CRLF) rest)) unread
+lineFrom zero ts unread = unread
 lineFrom (suc n) ts x = lineFrom n (ts ++ (timeIn x ∷ [])) (afterComma x)
 
-from-missing : (n : ℕ) (ts : List Time) → lineFrom n ts missing ≡ missing
+from-missing : (n : ℕ) (ts : List Time) → lineFrom n ts unread ≡ unread
 unfolding lineFrom afterComma
 from-missing zero ts = refl
 from-missing (suc n) ts = from-missing n (ts ++ (malformed ∷ []))
 
 -- fields before those of a reading
-abbrev before : List (List ℕ) → Reading (List (List ℕ)) → Reading (List (List ℕ))
+abbrev before : List (List ℕ) → Parsed (List (List ℕ)) → Parsed (List (List ℕ))
 before us (found vs rest) = found (us ++ vs) rest
-before us missing = missing
+before us unread = unread
 
-before-none : (x : Reading (List (List ℕ))) → before [] x ≡ x
+before-none : (x : Parsed (List (List ℕ))) → before [] x ≡ x
 before-none (found vs rest) = refl
-before-none missing = refl
+before-none unread = refl
 
-before-field : (us : List (List ℕ)) (v : List ℕ) (x : Reading (List (List ℕ))) → before us (withField v x) ≡ before (us ++ (v ∷ [])) x
+before-field : (us : List (List ℕ)) (v : List ℕ) (x : Parsed (List (List ℕ))) → before us (withField v x) ≡ before (us ++ (v ∷ [])) x
 before-field us v (found vs rest) = ap (λ fs. found fs rest) (sym (append-assoc us (v ∷ []) vs))
-before-field us v missing = refl
+before-field us v unread = refl
 
 -- a reading with another number of fields is none
-not-four : (fs : List (List ℕ)) (rest : List ℕ) → length fs ≢ 4 → fourFields (found fs rest) ≡ missing
+not-four : (fs : List (List ℕ)) (rest : List ℕ) → length fs ≢ 4 → fourFields (found fs rest) ≡ unread
 unfolding fourFields
 not-four fs rest h = rw (ne-eqb (length fs) 4 h) refl
 
 -- a line has a field at least
-abbrev Some : Reading (List (List ℕ)) → Type 0
+abbrev Some : Parsed (List (List ℕ)) → Type 0
 Some (found vs rest) = 1 ≤ length vs
-Some missing = Unit {0}
+Some unread = Unit {0}
 
-some-more : (v : List ℕ) (x : Reading (List (List ℕ))) → Some (withField v x)
+some-more : (v : List ℕ) (x : Parsed (List (List ℕ))) → Some (withField v x)
 some-more v (found vs rest) = omega arith
-some-more v missing = tt
+some-more v unread = tt
 
-some-after : (others : List ℕ → Reading (List (List ℕ))) (x : Reading (List ℕ)) → Some (afterField others x)
-some-after others missing = tt
+some-after : (others : List ℕ → Parsed (List (List ℕ))) (x : Parsed (List ℕ)) → Some (afterField others x)
+some-after others unread = tt
 some-after others (found v []) = omega arith
 some-after others (found v (b ∷ s)) =
     choice Some (eqb b COMMA) (λ e. some-more v (others s)) (λ e. choice Some (isEnd (b ∷ s)) (λ f. omega arith) (λ f. tt))
@@ -115,10 +115,10 @@ unfolding fields
 some-fields zero s = tt
 some-fields (suc m) s = some-after (fields m) (field s)
 
-too-many : (us : List (List ℕ)) (x : Reading (List (List ℕ))) → 4 ≤ length us → Some x → fourFields (before us x) ≡ missing
+too-many : (us : List (List ℕ)) (x : Parsed (List (List ℕ))) → 4 ≤ length us → Some x → fourFields (before us x) ≡ unread
 unfolding fourFields
 too-many us (found vs rest) h k = not-four (us ++ vs) rest (λ e. omega (arith, e, length-append us vs))
-too-many us missing h k = refl
+too-many us unread h k = refl
 
 one-more : (us : List (List ℕ)) (v : List ℕ) → length (us ++ (v ∷ [])) ≡ length us + 1
 one-more us v = length-append us (v ∷ [])
@@ -138,7 +138,7 @@ comma-no-end b (c ∷ s) e = rw (eqb-true b COMMA e) refl
 
 -- the last field, and one with fields after it
 module _ (m : ℕ) (us : List (List ℕ)) where
-  abbrev Reads : ℕ → Reading (List ℕ) → Type 0
+  abbrev Reads : ℕ → Parsed (List ℕ) → Type 0
   Reads n x = fourFields (before us (afterField (fields m) x)) ≡ lineFrom n (map time us) (timedField x)
 
   -- by whether a comma follows, and whether the line ends
@@ -149,14 +149,14 @@ module _ (m : ℕ) (us : List (List ℕ)) where
   last-by v b s h false true q z = rw (q, z) (four us v (b ∷ s) h)
   last-by v b s h false false q z = rw (q, z) refl
 
-  last-field : (x : Reading (List ℕ)) → length us ≡ 3 → Reads 0 x
+  last-field : (x : Parsed (List ℕ)) → length us ≡ 3 → Reads 0 x
   unfolding fourFields lineFrom timedField isEnd
-  last-field missing h = refl
+  last-field unread h = refl
   last-field (found v []) h = four us v [] h
   last-field (found v (b ∷ s)) h = last-by v b s h (eqb b COMMA) (isEnd (b ∷ s)) refl refl
 
   module _ (n : ℕ) (after : (vs : List (List ℕ)) (s : List ℕ) → length vs + n ≡ 3 → length s < m → fourFields (before vs (fields m s)) ≡ lineFrom n (map time vs) (timedField (field s))) where
-    ends-short : (v rest : List ℕ) → length us + suc n ≡ 3 → (ts : List Time) → fourFields (found (us ++ (v ∷ [])) rest) ≡ lineFrom n ts missing
+    ends-short : (v rest : List ℕ) → length us + suc n ≡ 3 → (ts : List Time) → fourFields (found (us ++ (v ∷ [])) rest) ≡ lineFrom n ts unread
     ends-short v rest h ts = not-four (us ++ (v ∷ [])) rest (λ e. omega (arith, e, h, one-more us v)) ∙ sym (from-missing n ts)
 
     next-by : (v : List ℕ) (b : ℕ) (s : List ℕ) → length us + suc n ≡ 3 → length s < m → (r e : Bool) → eqb b COMMA ≡ r → isEnd (b ∷ s) ≡ e → Reads (suc n) (found v (b ∷ s))
@@ -166,9 +166,9 @@ module _ (m : ℕ) (us : List (List ℕ)) where
     next-by v b s h k false true q z = rw (q, z) (ends-short v (b ∷ s) h _)
     next-by v b s h k false false q z = rw (q, z) (sym (from-missing n _))
 
-    next-field : (x : Reading (List ℕ)) → Within m x → length us + suc n ≡ 3 → Reads (suc n) x
+    next-field : (x : Parsed (List ℕ)) → Within m x → length us + suc n ≡ 3 → Reads (suc n) x
     unfolding fourFields lineFrom timedField afterComma
-    next-field missing w h = sym (from-missing n _)
+    next-field unread w h = sym (from-missing n _)
     next-field (found v []) w h = ends-short v [] h _
     next-field (found v (b ∷ s)) w h = next-by v b s h w (eqb b COMMA) (isEnd (b ∷ s)) refl refl
 

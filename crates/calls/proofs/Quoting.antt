@@ -14,7 +14,7 @@ use lib.Dec.{ltb, eqb}
 use lib.ListN.{length, getD, take, drop, drop-of-length-le}
 use lib.Seq.{drop-cons, take-suc}
 use Rattle.algebra.proofs.Tests.{true-false}
-use Rattle.model.specs.Calls.{DQUOTE, Reading, found, missing, alone, withByte, quoted, isDigit, allDigits, Time, malformed, time}
+use Rattle.model.specs.Calls.{DQUOTE, Parsed, found, unread, alone, withByte, quoted, isDigit, allDigits, Time, malformed, time}
 use Rattle.calls.specs.Meaning.{timedField, closedAt, isFirst}
 use Rattle.calls.proofs.Times.{no-time}
 use Rattle.calls.proofs.Scanning.{after, after-byte, after-nothing}
@@ -57,11 +57,11 @@ same-time (neither e f) = no-digits _ e ∙ sym (no-digits _ f)
 
 -- one byte of a field in quotes
 quoted-step : (b : ℕ) (s : List ℕ) → quoted (b ∷ s)
-    ≡ cond (eqb b DQUOTE) (cond (isFirst DQUOTE s) (withByte DQUOTE (quoted (drop 1 s))) (found [] s)) (cond (alone b) (withByte b (quoted s)) missing)
+    ≡ cond (eqb b DQUOTE) (cond (isFirst DQUOTE s) (withByte DQUOTE (quoted (drop 1 s))) (found [] s)) (cond (alone b) (withByte b (quoted s)) unread)
 unfolding quoted isFirst
-quoted-step b [] = ap (λ (x : Reading (List ℕ)). cond (eqb b DQUOTE) (found [] []) x) (go (alone b))
+quoted-step b [] = ap (λ (x : Parsed (List ℕ)). cond (eqb b DQUOTE) (found [] []) x) (go (alone b))
   where
-    go : (r : Bool) → _≡_ {A = Reading (List ℕ)} missing (cond r missing missing)
+    go : (r : Bool) → _≡_ {A = Parsed (List ℕ)} unread (cond r unread unread)
     go true = refl
     go false = refl
 quoted-step b (c ∷ s) = refl
@@ -92,7 +92,7 @@ module _ {text : List ℕ} {i : ℕ} (Q : Quoting text i) where
   step : i < length text → quoted text ≡ after (Q .said)
       (cond (eqb (getD text i 0) DQUOTE)
       (cond (isFirst DQUOTE (drop (suc i) text)) (withByte DQUOTE (quoted (drop 1 (drop (suc i) text)))) (found [] (drop (suc i) text)))
-      (cond (alone (getD text i 0)) (withByte (getD text i 0) (quoted (drop (suc i) text))) missing))
+      (cond (alone (getD text i 0)) (withByte (getD text i 0) (quoted (drop (suc i) text))) unread))
   step h = Q .rest ∙ ap (after (Q .said)) (ap quoted (drop-cons text i 0 h) ∙ quoted-step _ _)
 
   pub quoting-more : {r : Bool} → i < length text → getD text i 0 ≢ DQUOTE → r ≡ alone (getD text i 0) → r ≡ true → Quoting text (i + 1)
@@ -122,7 +122,7 @@ module _ {text : List ℕ} {i : ℕ} (Q : Quoting text i) where
   quoting-closed h d q e =
       rw (lt-ltb i (length text) h, step h, eq-eqb _ DQUOTE d, ← add-one i, ← q, e) (ap (λ t. found t (drop (i + 1) text)) (same-time (Q .same) ∙ ap time (sym (append-nil (Q .said)))))
 
-  open-end : quoted text ≡ missing → closedAt text (length text) ≡ timedField (quoted text)
+  open-end : quoted text ≡ unread → closedAt text (length text) ≡ timedField (quoted text)
   unfolding closedAt timedField
   open-end e = rw (le-ltb (length text) (length text) (omega arith), e) refl
 

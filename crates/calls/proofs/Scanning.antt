@@ -8,21 +8,21 @@ use native.Mathlib.Numerals.{add-one}
 use native.Mathlib.Omega.{arith}
 use lib.ListN.{length, getD, take, drop, drop-of-length-le}
 use lib.Seq.{drop-cons, take-suc}
-use Rattle.model.specs.Calls.{Reading, found, missing, isTEXTDATA, withByte, plain, Time, time}
+use Rattle.model.specs.Calls.{Parsed, found, unread, isTEXTDATA, withByte, plain, Time, time}
 use Rattle.calls.specs.Meaning.{timedField}
 
 -- what was read, u, before a reading
-abbrev pub after : List ℕ → Reading (List ℕ) → Reading (List ℕ)
+abbrev pub after : List ℕ → Parsed (List ℕ) → Parsed (List ℕ)
 after u (found v rest) = found (u ++ v) rest
-after u missing = missing
+after u unread = unread
 
-pub after-byte : (u : List ℕ) (b : ℕ) (x : Reading (List ℕ)) → after u (withByte b x) ≡ after (u ++ (b ∷ [])) x
+pub after-byte : (u : List ℕ) (b : ℕ) (x : Parsed (List ℕ)) → after u (withByte b x) ≡ after (u ++ (b ∷ [])) x
 after-byte u b (found v rest) = ap (λ w. found w rest) (sym (append-assoc u (b ∷ []) v))
-after-byte u b missing = refl
+after-byte u b unread = refl
 
-pub after-nothing : (x : Reading (List ℕ)) → x ≡ after [] x
+pub after-nothing : (x : Parsed (List ℕ)) → x ≡ after [] x
 after-nothing (found v rest) = refl
-after-nothing missing = refl
+after-nothing unread = refl
 
 -- after i bytes that are TEXTDATA
 pub record Plain (text : List ℕ) (i : ℕ) : Type 0 where

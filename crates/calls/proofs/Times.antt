@@ -12,7 +12,7 @@ use lib.Dec.{T, leb, leb→le}
 use lib.ListN.{length, getD, drop, drop-of-length-le}
 use lib.Seq.{drop-cons}
 use Rattle.algebra.proofs.Tests.{and-left, and-right, every-at}
-use Rattle.model.specs.Calls.{Time, none, at, malformed, isDigit, allDigits, spelt, time}
+use Rattle.model.specs.Calls.{Time, absent, second, malformed, isDigit, allDigits, decimalFrom, time}
 
 pub digit-range : (b : ℕ) → isDigit b ≡ true → (48 ≤ b) × (b ≤ 57)
 unfolding isDigit
@@ -20,7 +20,7 @@ digit-range b e =
     let t : T (leb 48 b && leb b 57) = subst T (sym e) tt in
     (leb→le 48 b (and-left (leb 48 b) (leb b 57) t), leb→le b 57 (and-right (leb 48 b) (leb b 57) t))
 
-pub empty-time : (text : List ℕ) → length text ≡ 0 → none ≡ time text
+pub empty-time : (text : List ℕ) → length text ≡ 0 → absent ≡ time text
 unfolding time
 empty-time [] e = refl
 empty-time (b ∷ s) e = absurd (omega arith)
@@ -35,11 +35,11 @@ unfolding time
 no-time [] h f = absurd (omega arith)
 no-time (b ∷ s) h f = rw f (go (leb (length (b ∷ s)) 7))
   where
-    go : (x : Bool) → cond (x && false) (at (spelt 0 (b ∷ s))) malformed ≡ malformed
+    go : (x : Bool) → cond (x && false) (second (decimalFrom 0 (b ∷ s))) malformed ≡ malformed
     go true = refl
     go false = refl
 
-pub a-time : (text : List ℕ) → 1 ≤ length text → length text ≤ 7 → allDigits text ≡ true → time text ≡ at (spelt 0 text)
+pub a-time : (text : List ℕ) → 1 ≤ length text → length text ≤ 7 → allDigits text ≡ true → time text ≡ second (decimalFrom 0 text)
 unfolding time
 a-time [] h k e = absurd (omega arith)
 a-time (b ∷ s) h k e = rw (e, le-leb (length (b ∷ s)) 7 k) refl
@@ -50,7 +50,7 @@ pub record Summing (text : List ℕ) (i v : ℕ) : Type 0 where
   pub few : length text ≤ 7
   pub within : i ≤ length text
   pub digits : allDigits text ≡ allDigits (drop i text)
-  pub spells : spelt 0 text ≡ spelt v (drop i text)
+  pub spells : decimalFrom 0 text ≡ decimalFrom v (drop i text)
   pub below : v < 10 ^ i
 
 pub summing-start : (text : List ℕ) → 1 ≤ length text → length text ≤ 7 → Summing text 0 0
@@ -65,7 +65,7 @@ module _ {text : List ℕ} {i v : ℕ} (S : Summing text i v) where
 
   pub summing-more : {r : Bool} {w : ℕ} → i < length text → r ≡ isDigit (getD text i 0) → r ≡ true → w ≡ 10 * v + (getD text i 0 - 48)
       → Summing text (i + 1) w
-  unfolding allDigits spelt
+  unfolding allDigits decimalFrom
   summing-more h q e z =
       record {
         some = S .some;
@@ -80,8 +80,8 @@ module _ {text : List ℕ} {i v : ℕ} (S : Summing text i v) where
   unfolding allDigits
   summing-stops h q e = sym (no-time text (S .some) (S .digits ∙ rw (drop-cons text i 0 h, ← q, e) refl))
 
-  pub summing-ends : length text ≤ i → at v ≡ time text
-  unfolding allDigits spelt
+  pub summing-ends : length text ≤ i → second v ≡ time text
+  unfolding allDigits decimalFrom
   summing-ends h =
       let d : drop i text ≡ [] = drop-of-length-le text {i = i} h in
-      sym (a-time text (S .some) (S .few) (S .digits ∙ ap allDigits d) ∙ ap at (S .spells ∙ ap (spelt v) d))
+      sym (a-time text (S .some) (S .few) (S .digits ∙ ap allDigits d) ∙ ap second (S .spells ∙ ap (decimalFrom v) d))

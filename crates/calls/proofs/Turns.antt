@@ -8,7 +8,7 @@ use native.Mathlib.Omega.{arith}
 use lib.Dec.{ltb}
 use lib.ListN.{length, take, drop, length-drop}
 use lib.Seq.{drop-drop}
-use Rattle.model.specs.Calls.{found, missing, lasted, wrong, lineAt, secondsOf, nextOf, lineNumber}
+use Rattle.model.specs.Calls.{found, unread, lasted, wrong, lineAt, secondsOf, nextOf, lineNumber}
 use Rattle.model.specs.Refusing.{firstFailed}
 use Rattle.calls.specs.declared.line.Line.{Line}
 use Rattle.calls.specs.declared.Turn.{Turn}
@@ -17,7 +17,7 @@ use Rattle.calls.proofs.Fields.{rest-from}
 
 -- the number of a line by the code's tests
 tested : (f t : Bool) (c room : ℕ) (next : List ℕ)
-    → cond f (cond t (cond (ltb 0 room) 0 33) 32) 31 ≡ lineNumber room (cond f (found (cond t (lasted c) wrong) next) missing)
+    → cond f (cond t (cond (ltb 0 room) 0 33) 32) 31 ≡ lineNumber room (cond f (found (cond t (lasted c) wrong) next) unread)
 unfolding lineNumber firstFailed
 tested true true c room next = refl
 tested true false c room next = refl
@@ -29,8 +29,8 @@ unfolding lineOf callOf
 number-of line room s p q r = rw (r, q, p) (tested (line .found) (line .call .timed) (line .call .seconds) room (drop (line .next) s))
 
 -- the call and the rest of a line that is not refused
-good-line : (f t : Bool) (c room : ℕ) (next : List ℕ) → lineNumber room (cond f (found (cond t (lasted c) wrong) next) missing) ≡ 0
-    → (secondsOf (cond f (found (cond t (lasted c) wrong) next) missing) ≡ c) × (nextOf (cond f (found (cond t (lasted c) wrong) next) missing) ≡ next)
+good-line : (f t : Bool) (c room : ℕ) (next : List ℕ) → lineNumber room (cond f (found (cond t (lasted c) wrong) next) unread) ≡ 0
+    → (secondsOf (cond f (found (cond t (lasted c) wrong) next) unread) ≡ c) × (nextOf (cond f (found (cond t (lasted c) wrong) next) unread) ≡ next)
 unfolding lineNumber firstFailed
 good-line true true c room next e = (refl, refl)
 good-line true false c room next e = absurd (omega (arith, e))

@@ -7,7 +7,7 @@ use Prim.Native.Nat.{ℕ, suc, _≤_}
 use lib.Dec.{ltb, eqb}
 use lib.ListN.{length, take, drop}
 use Rattle.model.specs.Calls as Calls
-use Rattle.model.specs.Calls.{Reading, found, missing, COMMA}
+use Rattle.model.specs.Calls.{Parsed, found, unread, COMMA}
 use Rattle.calls.specs.declared.time.Time.{Time}
 use Rattle.calls.specs.declared.time.Time.the-variants.{Absent, At, Malformed}
 use Rattle.calls.specs.declared.field.Field.{Field}
@@ -17,27 +17,27 @@ use Rattle.calls.specs.declared.Turn.{Turn}
 use Rattle.calls.specs.declared.Imported.{Imported}
 
 abbrev pub timeOf : Time → Calls.Time
-timeOf Absent = Calls.none
-timeOf (At x) = Calls.at x
+timeOf Absent = Calls.absent
+timeOf (At x) = Calls.second x
 timeOf Malformed = Calls.malformed
 
 -- a field by what it says as a time: all that is looked at
-unfoldable pub timedField : Reading (List ℕ) → Reading Calls.Time
+unfoldable pub timedField : Parsed (List ℕ) → Parsed Calls.Time
 timedField (found v rest) = found (Calls.time v) rest
-timedField missing = missing
+timedField unread = unread
 
 -- a field in quotes, after its first, by the place of its last; there is none at the text's end
-unfoldable pub closedAt : List ℕ → ℕ → Reading Calls.Time
-closedAt s i = cond (ltb i (length s)) (found (Calls.time (take i s)) (drop (suc i) s)) missing
+unfoldable pub closedAt : List ℕ → ℕ → Parsed Calls.Time
+closedAt s i = cond (ltb i (length s)) (found (Calls.time (take i s)) (drop (suc i) s)) unread
 
-unfoldable pub fieldOf : List ℕ → Field → Reading Calls.Time
-fieldOf s r = cond (r .found) (found (timeOf (r .time)) (drop (r .next) s)) missing
+unfoldable pub fieldOf : List ℕ → Field → Parsed Calls.Time
+fieldOf s r = cond (r .found) (found (timeOf (r .time)) (drop (r .next) s)) unread
 
 -- the field after a comma, by the field before it
-unfoldable pub afterComma : Reading Calls.Time → Reading Calls.Time
-afterComma missing = missing
-afterComma (found t []) = missing
-afterComma (found t (b ∷ s)) = cond (eqb b COMMA) (timedField (Calls.field s)) missing
+unfoldable pub afterComma : Parsed Calls.Time → Parsed Calls.Time
+afterComma unread = unread
+afterComma (found t []) = unread
+afterComma (found t (b ∷ s)) = cond (eqb b COMMA) (timedField (Calls.field s)) unread
 
 -- whether a byte stands at the start of a text
 unfoldable pub isFirst : ℕ → List ℕ → Bool
@@ -47,8 +47,8 @@ isFirst b (c ∷ s) = eqb c b
 unfoldable pub callOf : Call → Calls.Call
 callOf r = cond (r .timed) (Calls.lasted (r .seconds)) Calls.wrong
 
-unfoldable pub lineOf : List ℕ → Line → Reading Calls.Call
-lineOf s r = cond (r .found) (found (callOf (r .call)) (drop (r .next) s)) missing
+unfoldable pub lineOf : List ℕ → Line → Parsed Calls.Call
+lineOf s r = cond (r .found) (found (callOf (r .call)) (drop (r .next) s)) unread
 
 -- The line from a place on, with so many places left in the buffer: its number, and where that is 0 its call and the text after it.
 pub record Turned (list : List ℕ) (at room : ℕ) (r : Turn) : Type 0 where

@@ -31,7 +31,7 @@ fn lasted(from: u32, to: u32) -> Call
 }
 
 fn picked_up(dialled: u32, answered: u32, ended: u32) -> Call
-    ensures { λ r. ⌜ callOf r ≡ Calls.lasting dialled ended (Calls.at answered) ⌝ }
+    ensures { λ r. ⌜ callOf r ≡ Calls.lasting dialled (Calls.second answered) ended ⌝ }
 {
     if answered < dialled {
         return wrong();
@@ -43,7 +43,7 @@ fn picked_up(dialled: u32, answered: u32, ended: u32) -> Call
 }
 
 fn not_picked_up(dialled: u32, ended: u32) -> Call
-    ensures { λ r. ⌜ callOf r ≡ Calls.lasting dialled ended Calls.none ⌝ }
+    ensures { λ r. ⌜ callOf r ≡ Calls.lasting dialled Calls.absent ended ⌝ }
 {
     if ended < dialled {
         return wrong();
@@ -54,8 +54,8 @@ fn not_picked_up(dialled: u32, ended: u32) -> Call
     }
 }
 
-fn lasting(dialled: u32, ended: u32, answered: Time) -> Call
-    ensures { λ r. ⌜ callOf r ≡ Calls.lasting dialled ended (timeOf answered) ⌝ }
+fn lasting(dialled: u32, answered: Time, ended: u32) -> Call
+    ensures { λ r. ⌜ callOf r ≡ Calls.lasting dialled (timeOf answered) ended ⌝ }
 {
     match answered {
         Time::At(x) => picked_up(dialled, x, ended),
@@ -66,10 +66,10 @@ fn lasting(dialled: u32, ended: u32, answered: Time) -> Call
 
 // The call that was dialled then.
 fn dialled_at(dialled: u32, answered: Time, ended: Time) -> Call
-    ensures { λ r. ⌜ callOf r ≡ Calls.timed (timeOf ended) (λ e. Calls.lasting dialled e (timeOf answered)) ⌝ }
+    ensures { λ r. ⌜ callOf r ≡ Calls.timed (timeOf ended) (λ e. Calls.lasting dialled (timeOf answered) e) ⌝ }
 {
     match ended {
-        Time::At(e) => lasting(dialled, e, answered),
+        Time::At(e) => lasting(dialled, answered, e),
         Time::Absent => wrong(),
         Time::Malformed => wrong(),
     }
@@ -77,7 +77,7 @@ fn dialled_at(dialled: u32, answered: Time, ended: Time) -> Call
 
 // The call with these times: only the answered one may be absent.
 pub fn call_between(dialled: Time, answered: Time, ended: Time) -> Call
-    ensures { λ r. ⌜ callOf r ≡ Calls.timed (timeOf dialled) (λ d. Calls.timed (timeOf ended) (λ e. Calls.lasting d e (timeOf answered))) ⌝ }
+    ensures { λ r. ⌜ callOf r ≡ Calls.timed (timeOf dialled) (λ d. Calls.timed (timeOf ended) (λ e. Calls.lasting d (timeOf answered) e)) ⌝ }
 {
     match dialled {
         Time::At(d) => dialled_at(d, answered, ended),

@@ -18,8 +18,8 @@ pub struct Field {
     pub next: usize,
 }
 
-fn missing() -> Field
-    ensures { λ r. ⌜ ((s : List ℕ) → fieldOf s r ≡ Calls.missing) × (r .next ≡ 0) ⌝ }
+fn unread() -> Field
+    ensures { λ r. ⌜ ((s : List ℕ) → fieldOf s r ≡ Calls.unread) × (r .next ≡ 0) ⌝ }
 {
     Field {
         found: false,
@@ -92,7 +92,7 @@ fn escaped(text: &[u8]) -> Field
 {
     let size = quoted_length(&text[1..]);
     if text.len() - 1 <= size {
-        return missing();
+        return unread();
     }
     let time = read_time(&text[1..1 + size]);
     Field {
@@ -135,6 +135,6 @@ pub fn read_next(text: &[u8], before: Field) -> Field
     if letters::both(before.found, stands(text, at, COMMA)) {
         read_from(text, at + 1)
     } else {
-        missing()
+        unread()
     }
 }

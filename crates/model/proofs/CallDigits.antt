@@ -11,13 +11,13 @@ use lib.Dec.{T}
 use lib.ListN.{length, length-append}
 use lib.Seq.{append-snoc}
 use Rattle.algebra.proofs.Tests.{and-left, and-right, and-both}
-use Rattle.model.specs.Calls.{isDigit, allDigits, spelt}
+use Rattle.model.specs.Calls.{isDigit, allDigits, decimalFrom}
 use Rattle.model.specs.CallLists.{Decimal, no-digit, digit, Spells}
 use Rattle.model.proofs.CallBytes.{between}
 
 -- one digit more at the end
-spelt-more : (v : ℕ) (s : List ℕ) (b : ℕ) → spelt v (s ++ (b ∷ [])) ≡ 10 * spelt v s + (b - 48)
-unfolding spelt
+spelt-more : (v : ℕ) (s : List ℕ) (b : ℕ) → decimalFrom v (s ++ (b ∷ [])) ≡ 10 * decimalFrom v s + (b - 48)
+unfolding decimalFrom
 spelt-more v [] b = refl
 spelt-more v (c ∷ s) b = spelt-more (10 * v + (c - 48)) s b
 
@@ -39,19 +39,19 @@ unfolding allDigits isDigit
 digits-are no-digit = tt
 digits-are (digit {s} {d = d} D h) = digits-more s (48 + d) (digits-are D) (between 48 (48 + d) 57 .1 (omega arith))
 
-pub number-is : {s : List ℕ} {x : ℕ} → Decimal s x → x ≡ spelt 0 s
-unfolding spelt
+pub number-is : {s : List ℕ} {x : ℕ} → Decimal s x → x ≡ decimalFrom 0 s
+unfolding decimalFrom
 number-is no-digit = refl
 number-is (digit {s} {d = d} D h) = omega (arith, number-is D, spelt-more 0 s (48 + d))
 
 -- what passes the test is derived
-decimal-after : {s : List ℕ} {x : ℕ} → Decimal s x → (r : List ℕ) → T (allDigits r) → Decimal (s ++ r) (spelt x r)
-unfolding allDigits spelt
+decimal-after : {s : List ℕ} {x : ℕ} → Decimal s x → (r : List ℕ) → T (allDigits r) → Decimal (s ++ r) (decimalFrom x r)
+unfolding allDigits decimalFrom
 decimal-after {s} D [] t = rw (append-nil s) D
 decimal-after {s} D (b ∷ r) t =
     rw (← append-snoc s b r) (decimal-after (decimal-more b D (and-left (isDigit b) (allDigits r) t)) r (and-right (isDigit b) (allDigits r) t))
 
-pub decimal : (s : List ℕ) → T (allDigits s) → Decimal s (spelt 0 s)
+pub decimal : (s : List ℕ) → T (allDigits s) → Decimal s (decimalFrom 0 s)
 decimal = decimal-after no-digit
 
 -- n digits spell a number below 10 ^ n, so that a time is at most 9,999,999

@@ -10,12 +10,12 @@ use lib.ListN.{length, length-append}
 use lib.Seq.{append-snoc}
 use Rattle.algebra.specs.Lists.{All, none, one}
 use Rattle.algebra.proofs.Tests.{is-true}
-use Rattle.model.specs.Calls.{COMMA, CR, DQUOTE, LF, TEXTDATA, isTEXTDATA, alone, Quoted, nothing, a-TEXTDATA, a-COMMA, a-CR, a-LF, a-2DQUOTE, Field, escaped, non-escaped, Record, last, more, Ends, at-end, at-CRLF, Derives, Reading, found, withByte, plain, quoted, field, isEnd, withField, afterField, fields, readLine}
+use Rattle.model.specs.Calls.{COMMA, CR, DQUOTE, LF, TEXTDATA, isTEXTDATA, alone, Quoted, nothing, a-TEXTDATA, a-COMMA, a-CR, a-LF, a-2DQUOTE, Field, escaped, non-escaped, Record, last, more, Ends, at-end, at-CRLF, Derives, Parsed, found, withByte, plain, quoted, field, isEnd, withField, afterField, fields, readLine}
 use Rattle.model.proofs.CallBytes.{textdata, no-quote, textdata-alone}
 
 -- what may stand after a field
 data After : List ℕ → Type 0 where
-  the-end : {s : List ℕ} → Ends s → After s
+  the-end : {s next : List ℕ} → Ends s next → After s
   a-comma : {s : List ℕ} → After (COMMA ∷ s)
 
 -- a field ends before it: in quotes, without quotes, and an empty one
@@ -55,12 +55,12 @@ field-found {rest = rest} (escaped {s} q) A = rw (append-snoc s DQUOTE rest) (qu
 field-found (non-escaped none) A = field-ends A .2
 field-found (non-escaped (one t ts)) A = rw (no-quote t) (plain-found (one t ts) A)
 
-after-end : (others : List ℕ → Reading (List (List ℕ))) (v : List ℕ) {rest : List ℕ} → Ends rest → afterField others (found v rest) ≡ found (v ∷ []) rest
+after-end : (others : List ℕ → Parsed (List (List ℕ))) (v : List ℕ) {rest next : List ℕ} → Ends rest next → afterField others (found v rest) ≡ found (v ∷ []) rest
 unfolding isEnd
 after-end others v at-end = refl
 after-end others v at-CRLF = refl
 
-fields-found : {s rest : List ℕ} {fs : List (List ℕ)} (most : ℕ) → Record s fs → Ends rest → length s < most → fields most (s ++ rest) ≡ found fs rest
+fields-found : {s rest next : List ℕ} {fs : List (List ℕ)} (most : ℕ) → Record s fs → Ends rest next → length s < most → fields most (s ++ rest) ≡ found fs rest
 unfolding fields
 fields-found zero R E h = absurd (omega arith)
 fields-found (suc most) (last {v = v} F) E h = ap (afterField (fields most)) (field-found F (the-end E)) ∙ after-end (fields most) v E

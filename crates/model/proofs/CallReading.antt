@@ -5,19 +5,19 @@ use mathlib.Core.List.{List, [], _∷_, _++_, append-assoc}
 use Prim.Native.Nat.{ℕ, zero, suc}
 use borrow.Author.Tests.{eqb-true}
 use lib.Dec.{T, eqb, eqb→eq}
-use lib.ListN.{length}
+use lib.ListN.{length, drop}
 use lib.Seq.{append-snoc}
 use Rattle.algebra.specs.Lists.{All, none, one}
 use Rattle.algebra.proofs.Tests.{and-left, and-right, choice}
-use Rattle.model.specs.Calls.{COMMA, CR, DQUOTE, LF, TEXTDATA, isTEXTDATA, alone, Quoted, nothing, a-2DQUOTE, Field, escaped, non-escaped, last, more, Ends, at-end, at-CRLF, Derives, Reading, found, missing, withByte, plain, quoted, field, isEnd, withField, afterField, fields, readLine}
+use Rattle.model.specs.Calls.{COMMA, CR, CRLF, DQUOTE, LF, TEXTDATA, isTEXTDATA, alone, Quoted, nothing, a-2DQUOTE, Field, escaped, non-escaped, last, more, Ends, at-end, at-CRLF, Derives, Parsed, found, unread, withByte, plain, quoted, field, isEnd, withField, afterField, fields, readLine}
 use Rattle.model.specs.CallLists.{Reads}
 use Rattle.model.proofs.CallBytes.{textdata, one-alone}
 use Rattle.model.proofs.CallFound.{line-read}
 
 -- a property of what a reader finds and of the text after it
-abbrev Finds : {A : Type 0} → (A → List ℕ → Type 0) → Reading A → Type 0
+abbrev Finds : {A : Type 0} → (A → List ℕ → Type 0) → Parsed A → Type 0
 Finds P (found v rest) = P v rest
-Finds P missing = Unit {0}
+Finds P unread = Unit {0}
 
 -- the text begins with a text of which P holds, before rest
 record Begins (P : List ℕ → Type 0) (text rest : List ℕ) : Type 0 where
@@ -38,19 +38,19 @@ longer {rest = rest} bs k B =
     }
 
 -- what follows from it; and with one byte more before what a field says, and one field more before those of a record
-found-in : {A : Type 0} (P Q : A → List ℕ → Type 0) (r : Reading A) → ((v : A) (rest : List ℕ) → P v rest → Q v rest) → Finds P r → Finds Q r
+found-in : {A : Type 0} (P Q : A → List ℕ → Type 0) (r : Parsed A) → ((v : A) (rest : List ℕ) → P v rest → Q v rest) → Finds P r → Finds Q r
 found-in P Q (found v rest) k h = k v rest h
-found-in P Q missing k h = tt
+found-in P Q unread k h = tt
 
-with-byte : (P Q : List ℕ → List ℕ → Type 0) (b : ℕ) (r : Reading (List ℕ)) → ((v rest : List ℕ) → P v rest → Q (b ∷ v) rest) → Finds P r
+with-byte : (P Q : List ℕ → List ℕ → Type 0) (b : ℕ) (r : Parsed (List ℕ)) → ((v rest : List ℕ) → P v rest → Q (b ∷ v) rest) → Finds P r
     → Finds Q (withByte b r)
 with-byte P Q b (found v rest) k h = k v rest h
-with-byte P Q b missing k h = tt
+with-byte P Q b unread k h = tt
 
-with-field : (P Q : List (List ℕ) → List ℕ → Type 0) (v : List ℕ) (r : Reading (List (List ℕ)))
+with-field : (P Q : List (List ℕ) → List ℕ → Type 0) (v : List ℕ) (r : Parsed (List (List ℕ)))
     → ((vs : List (List ℕ)) (rest : List ℕ) → P vs rest → Q (v ∷ vs) rest) → Finds P r → Finds Q (withField v r)
 with-field P Q v (found vs rest) k h = k vs rest h
-with-field P Q v missing k h = tt
+with-field P Q v unread k h = tt
 
 -- what is found between quotes, before the quote that ends it
 abbrev Quotes : List ℕ → List ℕ → List ℕ → Type 0
@@ -101,15 +101,15 @@ fielded (b ∷ s) =
     (λ e. rw (eqb-true b DQUOTE e) (found-in (Quotes s) (Fielded (DQUOTE ∷ s)) (quoted s) (λ v rest. closed) (quotes s)))
     (λ _. found-in (Plain (b ∷ s)) (Fielded (b ∷ s)) (plain (b ∷ s)) (λ v rest h. record { front = v; holds = non-escaped (h .0); text-is = h .1 }) (plains (b ∷ s)))
 
-ends-here : (s : List ℕ) → T (isEnd s) → Ends s
+ends-here : (s : List ℕ) → T (isEnd s) → Ends s (drop (length CRLF) s)
 unfolding isEnd
 ends-here [] t = at-end
 ends-here (b ∷ []) t = absurd t
 ends-here (b ∷ c ∷ s) t = rw (eqb→eq b CR (and-left (eqb b CR) (eqb c LF) t), eqb→eq c LF (and-right (eqb b CR) (eqb c LF) t)) at-CRLF
 
 -- the line of one field that ends here, and that of a field and a comma before another line
-last-field : {text v rest : List ℕ} → Ends rest → Fielded text v rest → Derives text (v ∷ []) rest
-last-field E B = record { line = B .front; derived = last (B .holds); text-is = B .text-is; ends = E }
+last-field : {text v rest next : List ℕ} → Ends rest next → Fielded text v rest → Derives text (v ∷ []) rest
+last-field {next = next} E B = record { line = B .front; derived = last (B .holds); text-is = B .text-is; next = next; ends = E }
 
 field-more : {text v s rest : List ℕ} {vs : List (List ℕ)} → Fielded text v (COMMA ∷ s) → Derives s vs rest → Derives text (v ∷ vs) rest
 field-more {rest = rest} B D =
@@ -117,17 +117,18 @@ field-more {rest = rest} B D =
       line = B .front ++ (COMMA ∷ D .line);
       derived = more (B .holds) (D .derived);
       text-is = B .text-is ∙ ap (λ (l : List ℕ). B .front ++ (COMMA ∷ l)) (D .text-is) ∙ sym (append-assoc (B .front) (COMMA ∷ D .line) rest);
+      next = D .next;
       ends = D .ends;
     }
 
-after-field : (others : List ℕ → Reading (List (List ℕ))) → ((s : List ℕ) → Finds (Derives s) (others s)) → (text : List ℕ) (r : Reading (List ℕ))
+after-field : (others : List ℕ → Parsed (List (List ℕ))) → ((s : List ℕ) → Finds (Derives s) (others s)) → (text : List ℕ) (r : Parsed (List ℕ))
     → Finds (Fielded text) r → Finds (Derives text) (afterField others r)
 after-field others k text (found v []) B = last-field at-end B
 after-field others k text (found v (b ∷ s)) B =
     choice (Finds (Derives text)) (eqb b COMMA)
     (λ e. with-field (Derives s) (Derives text) v (others s) (λ vs rest. field-more (rw (eqb-true b COMMA e) at B)) (k s))
     (λ _. choice (Finds (Derives text)) (isEnd (b ∷ s)) (λ t. last-field (ends-here (b ∷ s) (rw t tt)) B) (λ _. tt))
-after-field others k text missing B = tt
+after-field others k text unread B = tt
 
 derives : (most : ℕ) (text : List ℕ) → Finds (Derives text) (fields most text)
 unfolding fields
@@ -139,7 +140,7 @@ unfolding readLine
 line-found text rest fs e = rw e at (derives (suc (length text)) text)
 
 -- a reading finds one thing
-pub same-found : {A : Type 0} {r : Reading A} {v v′ : A} {rest rest′ : List ℕ} → r ≡ found v rest → r ≡ found v′ rest′ → (v ≡ v′) × (rest ≡ rest′)
+pub same-found : {A : Type 0} {r : Parsed A} {v v′ : A} {rest rest′ : List ℕ} → r ≡ found v rest → r ≡ found v′ rest′ → (v ≡ v′) × (rest ≡ rest′)
 same-found e e′ = (cc, cc)
 
 pub reads : Reads

@@ -1,15 +1,20 @@
 -- How long a call lasts at most, and how many bytes so many lines of good calls have at least.
 -- Assumes nothing.
-use mathlib.Core.Path.{_≡_, ap}
+use mathlib.Core.Path.{_≡_, refl, ap}
 use mathlib.Core.Logic.{_≢_}
 use mathlib.Core.List.{List, [], _∷_}
 use Prim.Native.Nat.{ℕ, _+_, _*_, _≤_}
 use native.Mathlib.Omega.{arith}
-use lib.ListN.{length, length-append, length-drop}
+use lib.ListN.{length, drop, length-append, length-drop}
 use Rattle.algebra.specs.Lists.{All, none, one}
-use Rattle.model.specs.Calls.{COMMA, DQUOTE, CRLF, Quoted, nothing, a-TEXTDATA, a-COMMA, a-CR, a-LF, a-2DQUOTE, Field, escaped, non-escaped, Record, last, more}
-use Rattle.model.specs.CallLists.{FourFields, Lasted, picked-up, nobody, Lines, no-line, line, Answer, done, no-record, bad-times, full}
+use Rattle.model.specs.Calls.{COMMA, DQUOTE, CRLF, Quoted, nothing, a-TEXTDATA, a-COMMA, a-CR, a-LF, a-2DQUOTE, Field, escaped, non-escaped, Record, last, more, Ends, at-end, at-CRLF}
+use Rattle.model.specs.CallLists.{FourFields, Lasted, picked-up, nobody, Lines, no-line, line, NumberOf, done, no-record, bad-times, full}
 use Rattle.model.proofs.CallDigits.{at-most}
+
+-- the text after a line break, or nothing at the text's end
+pub next-is : {rest next : List ℕ} → Ends rest next → next ≡ drop (length CRLF) rest
+next-is at-end = refl
+next-is at-CRLF = refl
 
 -- a call lasts no longer than the time of its end says
 seconds-most : {dialled answered ended : List ℕ} {c : ℕ} → Lasted dialled answered ended c → c ≤ 9999999
@@ -20,7 +25,7 @@ pub all-seconds : {text seconds left : List ℕ} → Lines text seconds left →
 all-seconds no-line = none
 all-seconds (line F L Ls) = one (seconds-most L) (all-seconds Ls)
 
--- a field is at least as long as what it says
+-- a field is at least as long as its value
 quoted-length : {s v : List ℕ} → Quoted s v → length v ≤ length s
 quoted-length nothing = omega arith
 quoted-length (a-TEXTDATA t q) = omega (arith, quoted-length q)
@@ -54,10 +59,10 @@ good-length F (nobody D E h) = omega (arith, four-length F, D .one, E .one)
 -- and where five bytes or more are left after it, a line break of two
 lines-length : {text seconds left : List ℕ} → Lines text seconds left → 5 ≤ length left → 7 * length seconds + length left ≤ length text
 lines-length no-line h = omega arith
-lines-length (line {rest = rest} F L Ls) h = omega (arith, good-length F L, lines-length Ls h, length-drop (length CRLF) rest)
+lines-length (line {rest = rest} F L Ls) h = omega (arith, good-length F L, lines-length Ls h, ap length (next-is (F .ends)), length-drop (length CRLF) rest)
 
 -- so a buffer that is full was too small for the list
-pub full-length : {room : ℕ} {text seconds left : List ℕ} {number : ℕ} → Lines text seconds left → Answer room left number → number ≡ 33
+pub full-length : {room : ℕ} {text seconds left : List ℕ} {number : ℕ} → Lines text seconds left → NumberOf room left number → number ≡ 33
     → (room ≡ 0) × (7 * length seconds + 5 ≤ length text)
 full-length Ls (done e) z = absurd (omega arith)
 full-length Ls (no-record e n) z = absurd (omega arith)

@@ -1,4 +1,4 @@
--- What a field says as a time, and what the fields of a line say as a call, against `Spells` and `Lasted`.
+-- A field's value as a time, and the values of a line's fields as a call, against `Spells` and `Lasted`.
 -- Assumes nothing.
 use mathlib.Core.Path.{_≡_, refl, sym, ap, subst, _∙_}
 use mathlib.Core.Logic.{_↔_, _≢_}
@@ -10,7 +10,7 @@ use borrow.Author.Tests.{leb-true, leb-false}
 use lib.Dec.{T, leb, leb→le, le→leb}
 use lib.ListN.{length}
 use Rattle.algebra.proofs.Tests.{and-left, and-right, and-both, choice}
-use Rattle.model.specs.Calls.{Time, none, at, malformed, allDigits, spelt, time, Call, lasted, wrong, lasting, timed, call}
+use Rattle.model.specs.Calls.{Time, absent, second, malformed, allDigits, decimalFrom, time, Call, lasted, wrong, lasting, timed, call}
 use Rattle.model.specs.CallLists.{Spells, Lasted, picked-up, nobody}
 use Rattle.model.proofs.CallBytes.{between}
 use Rattle.model.proofs.CallDigits.{digits-are, number-is, decimal}
@@ -26,7 +26,7 @@ same-number S S′ = number-is (S .decimal) ∙ sym (number-is (S′ .decimal))
 abbrev isTime : List ℕ → Bool
 isTime s = leb (length s) 7 && allDigits s
 
-spelling : (s : List ℕ) → 1 ≤ length s → T (isTime s) → Spells s (spelt 0 s)
+spelling : (s : List ℕ) → 1 ≤ length s → T (isTime s) → Spells s (decimalFrom 0 s)
 spelling s h t =
     record {
       one = h;
@@ -39,8 +39,8 @@ is-time {s} S = and-both (leb (length s) 7) (allDigits s) (le→leb (length s) 7
 
 -- what each time says of its field
 abbrev Says : List ℕ → Time → Type 0
-Says s none = s ≡ []
-Says s (at x) = Spells s x
+Says s absent = s ≡ []
+Says s (second x) = Spells s x
 Says s malformed = (s ≢ []) × ((x : ℕ) → Spells s x → ⊥)
 
 times : (s : List ℕ) → Says s (time s)
@@ -50,19 +50,19 @@ times (b ∷ s) =
     choice (Says (b ∷ s)) (isTime (b ∷ s)) (λ e. spelling (b ∷ s) (omega arith) (rw e tt))
     (λ e. (λ q. omega (arith, ap length q), λ x S. subst T e (is-time S)))
 
-pub times-exact : (s : List ℕ) (x : ℕ) → (time s ≡ at x) ↔ Spells s x
+pub times-exact : (s : List ℕ) (x : ℕ) → (time s ≡ second x) ↔ Spells s x
 times-exact s x = (λ e. subst (Says s) e (times s), found-in (time s) (times s))
   where
-    found-in : (t : Time) → Says s t → Spells s x → t ≡ at x
-    found-in none e S = absurd (spells-some (rw e at S))
-    found-in (at y) S′ S = ap at (same-number S′ S)
+    found-in : (t : Time) → Says s t → Spells s x → t ≡ second x
+    found-in absent e S = absurd (spells-some (rw e at S))
+    found-in (second y) S′ S = ap second (same-number S′ S)
     found-in malformed n S = absurd (n .1 x S)
 
 -- of a field that must be a time: what holds of a call with each time, and without one, holds of the call
 with-time : (P : Call → Type 0) (s : List ℕ) (f : ℕ → Call) (t : Time) → Says s t → ((x : ℕ) → Spells s x → P (f x)) → (((x : ℕ) → Spells s x → ⊥) → P wrong)
     → P (timed t f)
-with-time P s f (at x) S k l = k x S
-with-time P s f none e k l = l (λ x S. spells-some (rw e at S))
+with-time P s f (second x) S k l = k x S
+with-time P s f absent e k l = l (λ x S. spells-some (rw e at S))
 with-time P s f malformed S k l = l (S .1)
 
 -- the two times that every call has
@@ -90,33 +90,33 @@ module _ (dialled answered ended : List ℕ) where
   Tells wrong = (c : ℕ) → Lasted dialled answered ended c → ⊥
 
   -- by the times of dialling and of the end, and what the answered field says
-  tells-lasting : {x z : ℕ} → Spells dialled x → Spells ended z → (t : Time) → Says answered t → Tells (lasting x z t)
+  tells-lasting : {x z : ℕ} → Spells dialled x → Spells ended z → (t : Time) → Says answered t → Tells (lasting x t z)
   unfolding lasting
-  tells-lasting {x} {z} D E (at y) A =
+  tells-lasting {x} {z} D E (second y) A =
       choice Tells (leb x y && leb y z) (λ e. let h = between x y z .0 (rw e tt) in picked-up D A E (h .0) (omega arith))
       (λ e. no-call D E (λ y′ A′ h k. subst T e (between x y z .1 (omega (arith, same-number A A′)))) (λ q h. spells-some (rw q at A)))
-  tells-lasting {x} {z} D E none A =
+  tells-lasting {x} {z} D E absent A =
       choice Tells (leb x z) (λ e. rw A (nobody D E (leb-true x z e)))
       (λ e. no-call D E (λ y A′ h k. spells-some (rw A at A′)) (λ q h. omega (arith, leb-false x z e)))
   tells-lasting D E malformed A = no-call D E (λ y A′ h k. A .1 y A′) (λ q h. A .0 q)
 
-  pub tells : (name : List ℕ) → Tells (call (name ∷ dialled ∷ answered ∷ ended ∷ []))
+  pub tells : Tells (call dialled answered ended)
   unfolding call
-  tells name =
+  tells =
       with-time Tells dialled _ (time dialled) (times dialled)
       (λ x D. with-time Tells ended _ (time ended) (times ended) (λ z E. tells-lasting D E (time answered) (times answered)) (λ n c L. n _ (both-times L .1 .1)))
       (λ n c L. n _ (both-times L .0 .1))
 
-  pub calls-exact : (name : List ℕ) (c : ℕ) → (call (name ∷ dialled ∷ answered ∷ ended ∷ []) ≡ lasted c) ↔ Lasted dialled answered ended c
-  calls-exact name c = (λ e. subst Tells e (tells name), found-in (call (name ∷ dialled ∷ answered ∷ ended ∷ [])) (tells name))
+  pub calls-exact : (c : ℕ) → (call dialled answered ended ≡ lasted c) ↔ Lasted dialled answered ended c
+  calls-exact c = (λ e. subst Tells e tells, found-in (call dialled answered ended) tells)
     where
       found-in : (k : Call) → Tells k → Lasted dialled answered ended c → k ≡ lasted c
       found-in (lasted c′) L′ L = ap lasted (same-seconds L′ L)
       found-in wrong n L = absurd (n c L)
 
   -- and where there is no call the times are refused
-  pub call-wrong : (name : List ℕ) → ((c : ℕ) → Lasted dialled answered ended c → ⊥) → call (name ∷ dialled ∷ answered ∷ ended ∷ []) ≡ wrong
-  call-wrong name n = found-in (call (name ∷ dialled ∷ answered ∷ ended ∷ [])) (tells name)
+  pub call-wrong : ((c : ℕ) → Lasted dialled answered ended c → ⊥) → call dialled answered ended ≡ wrong
+  call-wrong n = found-in (call dialled answered ended) tells
     where
       found-in : (k : Call) → Tells k → k ≡ wrong
       found-in (lasted c) L = absurd (n c L)

@@ -17,7 +17,7 @@ use Rattle.model.specs.Costs.{costBy}
 use Rattle.model.specs.Sheet.{headerOf, headerSize, maskBits, largestIn, limits, impliedLength, scriptIn, rowsAt, masksFrom, triplesFrom, inputIn, dealIn, all, maskRows, tripleRows, spell, secrets, goodMask, goodTriple, headerTests, limitTests, lengthTests, rowTests, sheetTests, bytesOf, shareBytes}
 use Rattle.model.specs.Commands.{throughLines, registersFrom, command}
 use Rattle.model.specs.Run.{allSet, marked, check, pay, runLines, nothingSpent, start, written, outcome, runScript, stopOf, run}
-use Rattle.model.specs.Calls.{isTEXTDATA, alone, plain, quoted, field, isEnd, fields, readLine, isDigit, allDigits, spelt, time, lasting, call, fourFields, lineAt, lineNumber, taken, imported}
+use Rattle.model.specs.Calls.{isTEXTDATA, alone, plain, quoted, field, isEnd, fields, readLine, isDigit, allDigits, decimalFrom, time, lasting, call, fourFields, lineAt, lineNumber, taken, imported}
 use Rattle.model.specs.CaseForms.{registersSeen, seen, Hold}
 use Rattle.model.specs.SheetCases.{sheetCases}
 use Rattle.model.specs.ScriptCases.{scriptCases}
@@ -48,7 +48,7 @@ unfolding add sub mul allBelow from tab row modulus largestK inUse fieldTests se
 entries-hold = refl
 
 pub calls-hold : Hold callCases
-unfolding onto firstFailed isTEXTDATA alone plain quoted field isEnd fields readLine isDigit allDigits spelt time lasting call fourFields lineAt lineNumber taken imported callCases
+unfolding onto firstFailed isTEXTDATA alone plain quoted field isEnd fields readLine isDigit allDigits decimalFrom time lasting call fourFields lineAt lineNumber taken imported callCases
 calls-hold = refl
 
 pub cases : Cases

@@ -1,13 +1,13 @@
--- The request "Calls from the exchange's own list", over the RFC's grammar and without a reader: that the reader of Calls.antt finds what the grammar
--- derives and nothing else, and which calls and which number every list has.
+-- The request "Calls from the exchange's own list": the reader of Calls.antt against the RFC's grammar, and what an import is in terms of the grammar
+-- alone.
 -- Assumes nothing.
 use mathlib.Core.Path.{_≡_}
 use mathlib.Core.Logic.{_↔_, _≢_}
 use mathlib.Core.List.{List, [], _∷_, _++_}
 use Prim.Native.Nat.{ℕ, _+_, _*_, _-_, _≤_, _<_}
-use lib.ListN.{length, drop}
+use lib.ListN.{length}
 use Rattle.algebra.specs.Lists.{All, onto}
-use Rattle.model.specs.Calls.{CRLF, Derives, found, readLine, at, time, lasted, call, lineAt, lineNumber, Imported, imported}
+use Rattle.model.specs.Calls.{Derives, found, readLine, second, time, lasted, call, lineAt, lineNumber, Imported, imported}
 
 -- The reader finds fields and a rest exactly where the grammar derives them, and no text has two readings.
 pub record Reads : Type 0 where
@@ -39,32 +39,31 @@ pub data Lasted : (dialled answered ended : List ℕ) → ℕ → Type 0 where
       → Lasted dialled answered ended c
   nobody : {dialled ended : List ℕ} {x z : ℕ} → Spells dialled x → Spells ended z → x ≤ z → Lasted dialled [] ended 0
 
--- "lines are taken in turn": the text begins with lines of good calls that lasted so long, and left is the text after these. "The last line break
--- may be missing"
+-- "lines are taken in turn": the text begins with lines of good calls that lasted so long, and left is the text after these
 pub data Lines : List ℕ → List ℕ → List ℕ → Type 0 where
   no-line : {text : List ℕ} → Lines text [] text
-  line : {text name dialled answered ended rest seconds left : List ℕ} {c : ℕ} → FourFields text name dialled answered ended rest → Lasted dialled answered ended c
-      → Lines (drop (length CRLF) rest) seconds left → Lines text (c ∷ seconds) left
+  line : {text name dialled answered ended rest seconds left : List ℕ} {c : ℕ} (D : FourFields text name dialled answered ended rest)
+      → Lasted dialled answered ended c → Lines (D .next) seconds left → Lines text (c ∷ seconds) left
 
 -- the number of a list whose good lines were taken, by the text that is left and the room in the buffer
-pub data Answer (room : ℕ) (left : List ℕ) : ℕ → Type 0 where
+pub data NumberOf (room : ℕ) (left : List ℕ) : ℕ → Type 0 where
   -- "0 when done"
-  done : left ≡ [] → Answer room left 0
+  done : left ≡ [] → NumberOf room left 0
   -- "31 the line breaks RFC 4180 or has not four fields"
-  no-record : left ≢ [] → NoLine left → Answer room left 31
+  no-record : left ≢ [] → NoLine left → NumberOf room left 31
   -- "32 a time is malformed, answered comes before dialled, or ended before answered (before dialled if unanswered)"
   bad-times : {name dialled answered ended rest : List ℕ} → FourFields left name dialled answered ended rest
-      → ((c : ℕ) → Lasted dialled answered ended c → ⊥) → Answer room left 32
+      → ((c : ℕ) → Lasted dialled answered ended c → ⊥) → NumberOf room left 32
   -- "33 the buffer is full"
   full : {name dialled answered ended rest : List ℕ} {c : ℕ} → FourFields left name dialled answered ended rest → Lasted dialled answered ended c → room ≡ 0
-      → Answer room left 33
+      → NumberOf room left 33
 
 -- what an import answers and leaves
 pub record Imports (list out : List ℕ) (x : Imported) : Type 0 where
   pub seconds : List ℕ
   pub left : List ℕ
   pub lines : Lines list seconds left
-  pub number : Answer (length out - length seconds) left (x .number)
+  pub number : NumberOf (length out - length seconds) left (x .number)
   pub calls : x .calls ≡ length seconds
   pub fits : length seconds ≤ length out
   -- "one 32-bit number a call": a time has at most seven digits
@@ -76,10 +75,10 @@ pub record Imports (list out : List ℕ) (x : Imported) : Type 0 where
 pub record CallLists : Type 0 where
   pub reads : Reads
   -- "A time is one to seven digits": a field is read as a time exactly where it spells one
-  pub times : (s : List ℕ) (x : ℕ) → (time s ≡ at x) ↔ Spells s x
+  pub times : (s : List ℕ) (x : ℕ) → (time s ≡ second x) ↔ Spells s x
   -- "ended minus answered, or 0 for no answer": the fields of a line are read as a good call exactly where they tell one
-  pub calls : (name dialled answered ended : List ℕ) (c : ℕ) → (call (name ∷ dialled ∷ answered ∷ ended ∷ []) ≡ lasted c) ↔ Lasted dialled answered ended c
-  -- 31 is said exactly where no derivation with four fields exists, whatever the buffer
+  pub calls : (dialled answered ended : List ℕ) (c : ℕ) → (call dialled answered ended ≡ lasted c) ↔ Lasted dialled answered ended c
+  -- A line's number is 31 exactly where no derivation with four fields exists, whatever the buffer; of an empty text no line is asked for.
   pub refused : (room : ℕ) (text : List ℕ) → (lineNumber room (lineAt text) ≡ 31) ↔ NoLine text
   pub imports : (list out : List ℕ) → Imports list out (imported list out)
   -- "The number (0 when done) and the calls written are returned; the rest of the buffer is left": `Imports` fixes all of it

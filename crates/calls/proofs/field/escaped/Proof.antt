@@ -10,7 +10,7 @@ use Rattle.calls.proofs.field.escaped.Tie as tie
 returns : tie.Need-returns
 returns c =
     let size = c .before .before .quoted-length in
-    (not-closed (c .before .before .before .before .before .args .text .now) (size .result) (size .ensures .1) (omega arith) (c .missing .ensures .0 _), omega (arith, c .missing .ensures .1))
+    (not-closed (c .before .before .before .before .before .args .text .now) (size .result) (size .ensures .1) (omega arith) (c .unread .ensures .0 _), omega (arith, c .unread .ensures .1))
 
 returns-2 : tie.Need-returns-2
 unfolding fieldOf

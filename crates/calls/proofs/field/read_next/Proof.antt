@@ -16,7 +16,7 @@ returns : tie.Need-returns
 returns c = search (needs, comma)
 
 returns-2 : tie.Need-returns-2
-returns-2 c = search (needs, no-comma, c .missing .ensures .0)
+returns-2 c = search (needs, no-comma, c .unread .ensures .0)
 
 pub read-next-spec : {M : Type 1} → statement M
 read-next-spec =
