@@ -1,4 +1,4 @@
--- A line of four fields, field by field. A field that is missing makes those after it missing, so the line is read as if each were there.
+-- A line of four fields, field by field. After a field that is not there none is, so the line is read as if each were there.
 -- Assumes nothing.
 use mathlib.Core.Path.{_≡_, refl, sym, ap, _∙_}
 use mathlib.Core.Logic.{_≢_}
@@ -61,7 +61,7 @@ call-by : (fs : List (List ℕ)) → call (getD fs 1 []) (getD fs 2 []) (getD fs
 unfolding call
 call-by fs = rw (getD-times fs 1, getD-times fs 2, getD-times fs 3) refl
 
--- what a field says as a time, where it is not missing
+-- a field's time, where there is a field
 abbrev pub timeIn : Parsed Time → Time
 timeIn (found t rest) = t
 timeIn unread = malformed
@@ -77,7 +77,7 @@ unfolding lineFrom afterComma
 from-missing zero ts = refl
 from-missing (suc n) ts = from-missing n (ts ++ (malformed ∷ []))
 
--- fields before those of a reading
+-- fields before those that are found
 abbrev before : List (List ℕ) → Parsed (List (List ℕ)) → Parsed (List (List ℕ))
 before us (found vs rest) = found (us ++ vs) rest
 before us unread = unread
@@ -90,7 +90,7 @@ before-field : (us : List (List ℕ)) (v : List ℕ) (x : Parsed (List (List ℕ
 before-field us v (found vs rest) = ap (λ fs. found fs rest) (sym (append-assoc us (v ∷ []) vs))
 before-field us v unread = refl
 
--- a reading with another number of fields is none
+-- a line with another number of fields is none of four
 not-four : (fs : List (List ℕ)) (rest : List ℕ) → length fs ≢ 4 → fourFields (found fs rest) ≡ unread
 unfolding fourFields
 not-four fs rest h = rw (ne-eqb (length fs) 4 h) refl

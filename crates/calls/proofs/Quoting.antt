@@ -1,5 +1,5 @@
--- Fields in quotes read byte by byte: what stands between the quotes says the same as a time as what the field says, since two quotes in it
--- are no digits, and neither is the one that they say.
+-- Fields in quotes read byte by byte. What stands between the quotes is the same time as the field's value: where they differ there is a quote in both,
+-- and that is no digit.
 -- Assumes nothing.
 use mathlib.Core.Path.{_≡_, refl, sym, ap, _∙_}
 use mathlib.Core.Logic.{_≢_}
@@ -19,7 +19,7 @@ use Rattle.calls.specs.Meaning.{timedField, closedAt, isFirst}
 use Rattle.calls.proofs.Times.{no-time}
 use Rattle.calls.proofs.Scanning.{after, after-byte, after-nothing}
 
--- what the raw text between quotes, and what it says, come to as times
+-- the raw text between quotes and the value that it stands for: equal, or neither is digits
 pub data Same (raw said : List ℕ) : Type 0 where
   equal : raw ≡ said → Same raw said
   neither : allDigits raw ≡ false → allDigits said ≡ false → Same raw said

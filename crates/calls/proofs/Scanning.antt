@@ -11,7 +11,7 @@ use lib.Seq.{drop-cons, take-suc}
 use Rattle.model.specs.Calls.{Parsed, found, unread, isTEXTDATA, withByte, plain, Time, time}
 use Rattle.calls.specs.Meaning.{timedField}
 
--- what was read, u, before a reading
+-- bytes u that were read before
 abbrev pub after : List ℕ → Parsed (List ℕ) → Parsed (List ℕ)
 after u (found v rest) = found (u ++ v) rest
 after u unread = unread
@@ -56,7 +56,7 @@ module _ {text : List ℕ} {i : ℕ} (P : Plain text i) where
   unfolding plain
   plain-ends h = ends-here (rw (drop-of-length-le text {i = i} h) refl)
 
--- what a plain field of i bytes says as a time
+-- a plain field of i bytes as a time
 pub plain-time : (text : List ℕ) (i : ℕ) {t : Time} → plain text ≡ found (take i text) (drop i text) → t ≡ time (take i text)
     → found t (drop i text) ≡ timedField (plain text)
 unfolding timedField

@@ -21,12 +21,12 @@ timeOf Absent = Calls.absent
 timeOf (At x) = Calls.second x
 timeOf Malformed = Calls.malformed
 
--- a field by what it says as a time: all that is looked at
+-- a field by its value as a time: all that is looked at
 unfoldable pub timedField : Parsed (List ℕ) → Parsed Calls.Time
 timedField (found v rest) = found (Calls.time v) rest
 timedField unread = unread
 
--- a field in quotes, after its first, by the place of its last; there is none at the text's end
+-- a field in quotes, after the opening quote, by the place of the closing one; at the text's end there is none
 unfoldable pub closedAt : List ℕ → ℕ → Parsed Calls.Time
 closedAt s i = cond (ltb i (length s)) (found (Calls.time (take i s)) (drop (suc i) s)) unread
 

@@ -1,4 +1,4 @@
-// "field = (escaped / non-escaped)": a field is read where it stands, and what it says is looked at as a time only.
+// "field = (escaped / non-escaped)". A field here is the RFC's, a part of a line. It is read where it stands, and its value is looked at as a time only.
 ghost use mathlib.Core.Path.{_≡_};
 ghost use mathlib.Core.List.{List};
 ghost use Prim.Native.Nat.{ℕ, _+_, _≤_};
@@ -11,7 +11,7 @@ use crate::letters::DQUOTE;
 use crate::time::Time;
 use crate::time::read_time;
 
-// Whether there is a field, what it says as a time, and the place after it.
+// Whether there is a field, its value as a time, and the place after it.
 pub struct Field {
     pub found: bool,
     pub time: Time,
@@ -56,7 +56,7 @@ fn non_escaped(text: &[u8]) -> Field
     }
 }
 
-// The place of the quote that ends a field in quotes, after its first; the text's length where none ends it.
+// The place of the closing quote, after the opening one; the text's length where there is none.
 fn quoted_length(text: &[u8]) -> usize
     ensures { λ r. ⌜ (r ≤ length (now (text .entry))) × (closedAt (now (text .entry)) r ≡ timedField (Calls.quoted (now (text .entry)))) ⌝ }
 {

@@ -6,7 +6,7 @@ ghost use Rattle.model.specs.Calls as Calls;
 ghost use Rattle.calls.specs.Meaning.{timeOf};
 use crate::letters;
 
-// What a field says as a time: nothing, seconds of the quarter, or neither.
+// A field's value as a time: none, a second of the quarter, or malformed.
 pub enum Time {
     Absent,
     At(u32),

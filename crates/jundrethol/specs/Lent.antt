@@ -1,4 +1,5 @@
--- What the C ABI leaves in lists that C lends: the paper gives registers, marks and counts no lent list, so what a short one takes is said here.
+-- What the C ABI leaves in lists that C lends: the paper gives registers, marks and counts no lent list, so what a short one takes is said here; and an
+-- import as C gets it.
 -- Assumes nothing.
 use mathlib.Core.Path.{_≡_}
 use mathlib.Core.Bool.{Bool, cond}
@@ -43,6 +44,6 @@ pub record Handed (o : Outcome) (n : ℕ) (log₁ shown₁ cells₀ cells₁ mar
   pub marks : marks₁ ≡ lent (flags (o .marks)) marks₀
   pub counts : counts₁ ≡ lent (o .place ∷ listed (o .counts)) counts₀
 
--- an import as C gets it: the number, how many calls were written, and the list of their seconds to its last number
-abbrev pub brought : ℕ → ℕ → List ℕ → Imported
-brought number calls seconds = record { number = number; calls = calls; out = seconds }
+-- an import: the number, how many calls were written, and the list of their seconds to its last number
+abbrev pub asImported : ℕ → ℕ → List ℕ → Imported
+asImported number calls seconds = record { number = number; calls = calls; out = seconds }

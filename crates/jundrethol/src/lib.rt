@@ -6,7 +6,7 @@ ghost use mathlib.Core.Path.{_≡_};
 ghost use Rattle.model.specs.Entries.{shareNumber, shareLeft, recoverNumber, recoverValue, recoverLeft, encodeNumber, encodeValue, decodeNumber, decodeValue};
 ghost use Rattle.model.specs.Run as Run;
 ghost use Rattle.model.specs.Calls as Calls;
-ghost use Rattle.jundrethol.specs.Lent.{Handed, brought};
+ghost use Rattle.jundrethol.specs.Lent.{Handed, asImported};
 use machine::run;
 
 // Runs a sheet. Opened shares go to the log, the header's record. Registers, marks and counts go to lists of any length.
@@ -29,7 +29,7 @@ pub extern "C" fn jundrethol_run(
 // Imports the calls of an exchange's list. How many were written goes to the place that C lends for it.
 #[no_mangle]
 pub extern "C" fn jundrethol_import(calls: &mut u64, list: &[u8], seconds: &mut [u32]) -> u32
-    ensures { λ r. ⌜ brought r (now (calls .exit)) (now (seconds .exit)) ≡ Calls.imported (now (list .entry)) (now (seconds .entry)) ⌝ }
+    ensures { λ r. ⌜ asImported r (now (calls .exit)) (now (seconds .exit)) ≡ Calls.imported (now (list .entry)) (now (seconds .entry)) ⌝ }
 {
     let answer = calls::import(list, seconds);
     *calls = answer.calls as u64;

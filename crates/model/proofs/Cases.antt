@@ -52,5 +52,5 @@ unfolding onto firstFailed isTEXTDATA alone plain quoted field isEnd fields read
 calls-hold = refl
 
 pub cases : Cases
-unfolding firstFailed allSet check checks
-cases = record { sheets = sheets-hold; scripts = scripts-hold; runs = runs-hold; masked = masked-hold; order = refl; entries = entries-hold; calls = calls-hold }
+unfolding from onto firstFailed allSet check checks isTEXTDATA alone plain quoted field isEnd fields readLine isDigit allDigits decimalFrom time lasting call fourFields lineAt lineNumber taken imported
+cases = record { sheets = sheets-hold; scripts = scripts-hold; runs = runs-hold; masked = masked-hold; order = refl; entries = entries-hold; calls = calls-hold; values = refl; plain-names = refl; quoted-names = refl }

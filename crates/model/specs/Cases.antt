@@ -2,11 +2,14 @@
 -- Assumes nothing.
 use mathlib.Core.Path.{_≡_}
 use mathlib.Core.Bool.{Bool, true, false}
-use mathlib.Core.List.{List, [], _∷_}
+use mathlib.Core.List.{List, [], _∷_, _++_, map}
 use Prim.Native.Nat.{ℕ}
+use lib.ListN.{replicate}
+use Rattle.algebra.specs.Lists.{from}
 use Rattle.model.specs.Counts.{noCounts}
 use Rattle.model.specs.Costs.{Cost}
 use Rattle.model.specs.Run.{check}
+use Rattle.model.specs.Calls.{found, readLine, imported}
 use Rattle.model.specs.CaseForms.{Hold}
 use Rattle.model.specs.SheetCases.{sheetCases}
 use Rattle.model.specs.ScriptCases.{scriptCases}
@@ -33,7 +36,7 @@ checks =
     ∷ checked true 1 1 1 3 0 ∷ checked true 1 1 1 3 1 ∷ checked false 1 1 1 3 1 ∷ checked true 0 1 1 3 1 ∷ checked true 1 0 1 3 1
     ∷ checked true 1 1 0 3 1 ∷ checked true 1 1 1 2 1 ∷ []
 
--- Each row of the six tables computes to what the reference, a separately written program, answers by the paper. It writes the tables, and
+-- Each row of the six tables computes to what the reference, a separately written program, answers by the paper and the requests. It writes the tables, and
 -- the proved programs `cases`, `entries` and `call_cases` answer the same sheets, calls and lists.
 pub record Cases : Type 0 where
   pub sheets : Hold sheetCases
@@ -43,3 +46,11 @@ pub record Cases : Type 0 where
   pub order : checks ≡ 21 ∷ 22 ∷ 23 ∷ 24 ∷ 25 ∷ 26 ∷ 0 ∷ 21 ∷ 22 ∷ 23 ∷ 24 ∷ 25 ∷ []
   pub entries : Hold entryCases
   pub calls : Hold callCases
+  -- the values of fields, of which an import shows the times alone: "a""b","<CR><LF>,"<CR><LF>c
+  pub values : readLine (34 ∷ 97 ∷ 34 ∷ 34 ∷ 98 ∷ 34 ∷ 44 ∷ 34 ∷ 13 ∷ 10 ∷ 44 ∷ 34 ∷ 13 ∷ 10 ∷ 99 ∷ [])
+      ≡ found ((97 ∷ 34 ∷ 98 ∷ []) ∷ (13 ∷ 10 ∷ 44 ∷ []) ∷ []) (13 ∷ 10 ∷ 99 ∷ [])
+  -- every byte as a name, without quotes and between quotes: 31, or 33 for a good line, since there is no buffer
+  pub plain-names : map (λ b. imported (b ∷ 44 ∷ 49 ∷ 44 ∷ 50 ∷ 44 ∷ 53 ∷ []) [] .number) (from 0 256)
+      ≡ replicate 32 31 ++ (replicate 2 33 ++ (replicate 1 31 ++ (replicate 9 33 ++ (replicate 1 31 ++ (replicate 82 33 ++ replicate 129 31)))))
+  pub quoted-names : map (λ b. imported (34 ∷ b ∷ 34 ∷ 44 ∷ 49 ∷ 44 ∷ 50 ∷ 44 ∷ 53 ∷ []) [] .number) (from 0 256)
+      ≡ replicate 10 31 ++ (replicate 1 33 ++ (replicate 2 31 ++ (replicate 1 33 ++ (replicate 18 31 ++ (replicate 2 33 ++ (replicate 1 31 ++ (replicate 92 33 ++ replicate 129 31)))))))
