@@ -104,8 +104,8 @@ callCases =
     ∷ took (97 ∷ 44 ∷ 48 ∷ 48 ∷ 48 ∷ 48 ∷ 48 ∷ 48 ∷ 48 ∷ 49 ∷ 44 ∷ 50 ∷ 44 ∷ 53 ∷ []) 1 32 0 (99 ∷ [])
     -- 32: dialled is empty: a,,2,5
     ∷ took (97 ∷ 44 ∷ 44 ∷ 50 ∷ 44 ∷ 53 ∷ []) 1 32 0 (99 ∷ [])
-    -- 32: ended is empty: a,1,,
-    ∷ took (97 ∷ 44 ∷ 49 ∷ 44 ∷ 44 ∷ []) 1 32 0 (99 ∷ [])
+    -- 32: ended is empty: a,0,,
+    ∷ took (97 ∷ 44 ∷ 48 ∷ 44 ∷ 44 ∷ []) 1 32 0 (99 ∷ [])
     -- 32: all times are empty: a,,,
     ∷ took (97 ∷ 44 ∷ 44 ∷ 44 ∷ []) 1 32 0 (99 ∷ [])
     -- 32: a first line is no header: line,dialled,answered,ended

@@ -141,7 +141,7 @@ fn times() -> Vec<Held> {
         held("9 is before 10", b"a,9,10,11", 1),
         held("32: eight digits", b"a,00000001,2,5", 1),
         held("32: dialled is empty", b"a,,2,5", 1),
-        held("32: ended is empty", b"a,1,,", 1),
+        held("32: ended is empty", b"a,0,,", 1),
         held("32: all times are empty", b"a,,,", 1),
         held(
             "32: a first line is no header",
