@@ -90,7 +90,10 @@ fn broken() -> Vec<Held> {
             b"a\"b,1,2,5",
             1,
         ),
+        held("31: a quote and LF after a plain field", b"a,1,2,5\"\n", 1),
+        held("31: a space before a quote", b" \"a\",1,2,5", 1),
         held("31: text after a closing quote", b"\"a\"b,1,2,5", 1),
+        held("31: a space after a closing quote", b"\"a\" ,1,2,5", 1),
         held("31: a quote that is not closed", b"a,1,2,\"5", 1),
         held(
             "31: the last of three quotes opens again",
@@ -99,13 +102,19 @@ fn broken() -> Vec<Held> {
         ),
         held("31: CR at the very end", b"a,1,2,5\r", 1),
         held("31: LF ends no line", b"a,1,2,5\n", 1),
-        held("31: CR and text", b"a\rb,1,2,5", 1),
+        held("31: two LF", b"a,1,2,5\n\n", 1),
+        held("31: LF before a line break", b"a,1,2,5\n\r\n", 1),
+        held("31: CR before a line break", b"a,1,2,5\r\r\n", 1),
+        held("31: CR and text", b"a,1,2,5\rb,1,2,5", 2),
         held("31: a tab", b"\t,1,2,5", 1),
+        held("31: 1A at the very end", b"a,1,2,5\x1A", 1),
         held("31: 1F between quotes", b"\"\x1F\",1,2,5", 1),
         held("31: 7F", b"\x7F,1,2,5", 1),
         held("31: 80 between quotes", b"\"\x80\",1,2,5", 1),
+        held("31: a byte order mark", b"\xEF\xBB\xBFa,1,2,5", 1),
         held("31: three fields", b"a,1,2", 1),
         held("31: five fields", b"a,1,2,5,", 1),
+        held("31: six fields", b"a,1,2,5,6,7", 1),
         held("31: a line break alone is an empty line", b"\r\n", 1),
         held(
             "31: a second line break; the call stands",
@@ -123,17 +132,30 @@ fn times() -> Vec<Held> {
             1,
         ),
         held("leading zeros are digits", b"a,0000001,02,05", 1),
+        held("leading zeros, and ten", b"a,0,0,010", 1),
+        held("an answer at 0 is an answer", b"a,0,0,5", 1),
         held("nobody picked up", b"a,1,,5", 1),
         held("quotes around nothing are nothing", b"a,1,\"\",5", 1),
         held("equal times are in order", b"a,5,5,5", 1),
+        held("equal times, and nobody picked up", b"a,5,,5", 1),
         held("9 is before 10", b"a,9,10,11", 1),
         held("32: eight digits", b"a,00000001,2,5", 1),
         held("32: dialled is empty", b"a,,2,5", 1),
-        held("32: ended is empty", b"a,1,,", 1),
+        held("32: ended is empty", b"a,0,,", 1),
+        held("32: all times are empty", b"a,,,", 1),
+        held(
+            "32: a first line is no header",
+            b"line,dialled,answered,ended",
+            1,
+        ),
         held("32: a sign", b"a,+1,2,5", 1),
-        held("32: 2F, before the digits", b"a,1,/,5", 1),
+        held("32: 2F, before the digits", b"a,0,/,5", 1),
         held("32: 3A, after the digits", b"a,1,2,:", 1),
         held("32: a quote in a quoted time", b"a,1,\"2\"\"\",5", 1),
+        held("32: a comma in a quoted time", b"a,1,\"2,\",5", 1),
+        held("32: CR in a quoted time", b"a,1,\"2\r\",5", 1),
+        held("32: LF in a quoted time", b"a,1,\"2\n\",5", 1),
+        held("32: a space in a quoted time", b"a,0,\"2 \",5", 1),
         held("32: answered before dialled", b"a,3,2,5", 1),
         held("32: ended before answered", b"a,1,6,5", 1),
         held("32: not answered, ended before dialled", b"a,6,,5", 1),
@@ -182,6 +204,17 @@ mod tests {
         }
     }
 
+    #[test]
+    fn broken_lists_leave_the_buffer_unless_a_call_stands() {
+        for held in broken() {
+            let stands = usize::from(held.says.ends_with("the call stands"));
+            let left = held.left();
+            assert_eq!(left.calls, stands, "{}", held.says);
+            let rest = &left.seconds[stands..];
+            assert!(rest.iter().all(|&left| left == FILLING), "{}", held.says);
+        }
+    }
+
     /// The seconds, by hand.
     #[test]
     fn good_lists_leave_their_calls() {
@@ -190,6 +223,10 @@ mod tests {
             ("the last line break is missing", &[3, 99]),
             ("two lines", &[3, 0, 99]),
             ("seven digits, and from the answer to the end", &[9_999_998]),
+            ("leading zeros, and ten", &[10]),
+            ("an answer at 0 is an answer", &[5]),
+            ("equal times, and nobody picked up", &[0]),
+            ("31: CR and text", &[99, 99]),
             ("31: a second line break; the call stands", &[3, 99]),
             ("32: the call of the line before stands", &[3, 99, 99]),
             ("33: one place for two calls", &[3]),

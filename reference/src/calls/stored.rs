@@ -43,7 +43,8 @@ fn told() -> Vec<Told> {
 }
 
 fn lent() -> Vec<Lent> {
-    let mut lent = turns::full();
+    let mut lent = bytes::every();
+    lent.extend(turns::full());
     lent.extend(room::all());
     lent
 }
@@ -99,7 +100,7 @@ mod tests {
     #[test]
     fn answers_are_within_bounds() {
         let cases = all();
-        assert!((300..=600).contains(&cases.len()), "{}", cases.len());
+        assert!((1_000..=2_000).contains(&cases.len()), "{}", cases.len());
         let length: usize = cases.iter().map(|case| lines(case).len()).sum();
         assert!(length < 60_000, "{length}");
     }

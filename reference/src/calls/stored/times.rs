@@ -3,8 +3,8 @@
 use super::{good, refused, Told};
 use crate::refusal::{NONE, TIME};
 
-/// No times; the last two are to stand in quotes.
-const MALFORMED: [&str; 24] = [
+/// No times; the last six stand in quotes.
+const MALFORMED: [&str; 28] = [
     "00000001",
     "12345678",
     "00000000",
@@ -28,9 +28,14 @@ const MALFORMED: [&str; 24] = [
     "a",
     "1_0",
     "\"1,5\"",
+    "\"1,\"",
+    "\"1\"\"\"",
+    "\"1\r\"",
+    "\"1\n\"",
     "\"1\r\n\"",
 ];
 
+/// Malformed times stand beside 0 and 9999999, with which every time would be in order.
 pub fn all() -> Vec<Told> {
     let mut all = read();
     for time in MALFORMED {
@@ -38,8 +43,8 @@ pub fn all() -> Vec<Told> {
             TIME,
             [
                 format!("a,{time},9999999,9999999").as_str(),
-                &format!("a,1,{time},9999999"),
-                &format!("a,0,1,{time}\r\n"),
+                &format!("a,0,{time},9999999"),
+                &format!("a,0,0,{time}\r\n"),
             ],
         ));
     }
@@ -111,6 +116,10 @@ fn empty() -> Vec<Told> {
             "a,\"\",2,3",
             "a,1,2,\"\"",
             "a,1,,\"\"\r\n",
+            // nothing is not 0
+            "a,0,,",
+            "a,0,0,",
+            "a,0,0,\"\"",
         ],
     ));
     all
