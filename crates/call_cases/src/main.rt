@@ -8,7 +8,7 @@ use report::number::list_line;
 use report::number::number;
 
 fn main() {
-    let mut input = [0u8; 60000];
+    let mut input = [0u8; 100000];
     let got = io::read_full(0, &mut input);
     run_cases(&input[..got]);
 }

@@ -44,6 +44,7 @@ fn told() -> Vec<Told> {
 
 fn lent() -> Vec<Lent> {
     let mut lent = bytes::every();
+    lent.extend(breaks::pairs());
     lent.extend(turns::full());
     lent.extend(room::all());
     lent
@@ -94,15 +95,15 @@ mod tests {
         assert_eq!(cases, all());
         let bytes: Vec<u8> = cases.iter().flat_map(Case::to_bytes).collect();
         assert_eq!(read_all(&bytes), Ok(cases));
-        assert!(bytes.len() < 60_000, "{}", bytes.len());
+        assert!(bytes.len() < 100_000, "{}", bytes.len());
     }
 
     #[test]
     fn answers_are_within_bounds() {
         let cases = all();
-        assert!((1_000..=2_000).contains(&cases.len()), "{}", cases.len());
+        assert!((3_000..=4_000).contains(&cases.len()), "{}", cases.len());
         let length: usize = cases.iter().map(|case| lines(case).len()).sum();
-        assert!(length < 60_000, "{length}");
+        assert!(length < 150_000, "{length}");
     }
 
     #[test]
