@@ -109,6 +109,12 @@ pub onto-all : (vs xs : List ℕ) → length xs ≤ length vs → onto vs xs ≡
 unfolding onto
 onto-all vs xs h = rw (drop-of-length-le xs {i = length vs} h, append-nil)
 
+-- one number more behind those that stand over the start of xs
+pub onto-more : (us xs : List ℕ) (v : ℕ) {n : ℕ} → length us ≡ n → n < length xs → set (onto us xs) n v ≡ onto (us ++ (v ∷ [])) xs
+unfolding onto
+onto-more us xs v {n} e h =
+    rw (e, drop-cons xs n 0 h, set-at us (getD xs n 0) (drop (suc n) xs) v n e, append-assoc us (v ∷ []), length-append us (v ∷ []), e, add-one) refl
+
 -- A loop that writes the first n numbers of vs over the start of xs, one law for each of its needs: after j turns l has j of them.
 pub record Writing (vs xs : List ℕ) (n j : ℕ) (l : List ℕ) : Type 0 where
   pub within : j ≤ n
@@ -123,12 +129,7 @@ pub writing-more : {vs xs : List ℕ} {n j : ℕ} {l : List ℕ} {v : ℕ} → W
 writing-more {vs} {xs} {n} {j} {l} {v} W h hv hx q = record { within = omega arith; is = go (W .is) }
   where
     go : l ≡ onto (take j vs) xs → set l j v ≡ onto (take (j + 1) vs) xs
-    go e =
-        unfold onto in
-        let s : length (take j vs) ≡ j = length-take-le j vs (omega arith) in
-        let s′ : length (take (suc j) vs) ≡ suc j = length-take-le (suc j) vs (omega arith) in
-        rw (e, q, add-one, s, s′, drop-cons xs j 0 (omega arith), take-suc vs j 0 (omega arith), append-assoc)
-        (set-at (take j vs) (getD xs j 0) (drop (suc j) xs) (getD vs j 0) j s)
+    go e = rw (e, q, add-one, take-suc vs j 0 (omega arith)) (onto-more (take j vs) xs (getD vs j 0) (length-take-le j vs (omega arith)) (omega arith))
 
 pub writing-end : {vs xs : List ℕ} {n j : ℕ} {l : List ℕ} → Writing vs xs n j l → n ≤ j → l ≡ onto (take n vs) xs
 writing-end {n = n} {j} W h = let e : j ≡ n = omega arith in rw e at (W .is)

@@ -3,12 +3,12 @@
 use mathlib.Core.Path.{_≡_, refl, sym, ap, _∙_}
 use mathlib.Core.Bool.{Bool, true, false, _&&_, cond}
 use mathlib.Core.List.{List, [], _∷_}
-use Prim.Native.Nat.{ℕ, zero, suc, _+_, _-_, _≤_, _<_}
+use Prim.Native.Nat.{ℕ, suc, _+_, _-_, _≤_, _<_}
 use native.Mathlib.Decide.{decLt}
 use native.Mathlib.Omega.{arith}
-use borrow.Author.Tests.{lt-ltb, le-ltb, eq-eqb, ne-eqb}
-use lib.ListN.{length, getD, take, drop, length-drop, drop-of-length-le}
-use lib.Seq.{take-all, drop-drop, drop-cons}
+use borrow.Author.Tests.{lt-ltb, le-ltb}
+use lib.ListN.{length, take, drop, length-drop, drop-of-length-le}
+use lib.Seq.{take-all, drop-drop}
 use Rattle.algebra.proofs.Tests.{true-false}
 use Rattle.model.specs.Calls.{COMMA, DQUOTE, Parsed, found, unread, plain, quoted, field, Time, time}
 use Rattle.calls.specs.declared.field.Field.{Field}
@@ -96,8 +96,8 @@ module _ (text : List ℕ) (before : Field) {r : Bool} {p : Bool} (q : r ≡ (be
   here-is : before .found && isFirst COMMA (drop (before .next) text) ≡ r
   here-is = rw (← z) (sym q)
 
-  pub within : r ≡ true → before .next < length text
-  within e = comma-within (before .found) (before .next) text (here-is ∙ e)
+  pub within : r ≡ true → before .next + 1 ≤ length text
+  within e = omega (arith, comma-within (before .found) (before .next) text (here-is ∙ e))
 
   pub comma : {x : Parsed Time} → r ≡ true → x ≡ timedField (field (drop (before .next + 1) text)) → x ≡ afterComma (fieldOf text before)
   unfolding fieldOf

@@ -3,15 +3,13 @@
 use mathlib.Core.Path.{_≡_, refl, sym, ap, _∙_}
 use mathlib.Core.Bool.{Bool, true, false, _&&_, cond}
 use mathlib.Core.List.{List, [], _∷_, _++_}
-use Prim.Native.Nat.{ℕ, suc, _≤_}
-use lib.ListN.{length, drop}
+use Prim.Native.Nat.{ℕ}
+use lib.ListN.{drop}
 use native.Mathlib.Omega.{arith}
-use Rattle.algebra.proofs.Tests.{true-false}
 use Rattle.model.specs.Calls as Calls
-use Rattle.model.specs.Calls.{Parsed, found, unread, field, isEnd, Time, lasting, timed, lineAt}
+use Rattle.model.specs.Calls.{found, unread, field, isEnd, Time, lasting, timed, lineAt}
 use Rattle.calls.specs.declared.field.Field.{Field}
 use Rattle.calls.specs.declared.call.Call.{Call}
-use Rattle.calls.specs.declared.line.Line.{Line}
 use Rattle.calls.specs.Meaning.{timeOf, timedField, fieldOf, afterComma, callOf, lineOf}
 use Rattle.calls.proofs.Lines.{timeIn, callBy, lineFrom, line-from}
 

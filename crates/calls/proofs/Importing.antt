@@ -1,18 +1,14 @@
 -- The import, line by line.
 -- Assumes nothing.
-use mathlib.Core.Path.{_≡_, refl, sym, ap, subst, _∙_}
+use mathlib.Core.Path.{_≡_, refl, sym, ap, _∙_}
 use mathlib.Core.Logic.{_≢_}
-use mathlib.Core.Bool.{Bool, true, false, cond}
 use mathlib.Core.List.{List, [], _∷_, _++_, append-assoc, append-nil}
 use Prim.Native.Nat.{ℕ, zero, suc, _+_, _-_, _≤_, _<_}
-use native.Mathlib.Numerals.{add-one}
 use native.Mathlib.Omega.{arith}
-use lib.Dec.{ltb}
-use lib.ListN.{length, getD, set, take, drop, length-append, length-drop, drop-of-length-le}
-use lib.Seq.{drop-cons, drop-drop, set-at}
+use lib.ListN.{length, set, drop, length-append, length-drop, drop-of-length-le}
 use Rattle.algebra.specs.Lists.{onto}
-use Rattle.algebra.proofs.Lists.{length-onto}
-use Rattle.model.specs.Calls.{Parsed, found, unread, Call, lasted, wrong, lineAt, isLine, isTimed, secondsOf, nextOf, lineNumber, Taken, stopsWith, withCall, turn, taken, Imported, imported}
+use Rattle.algebra.proofs.Lists.{length-onto, onto-more}
+use Rattle.model.specs.Calls.{Parsed, found, unread, Call, lasted, wrong, lineAt, secondsOf, nextOf, lineNumber, Taken, stopsWith, withCall, turn, taken, imported}
 use Rattle.model.specs.Refusing.{firstFailed, given}
 use Rattle.calls.specs.declared.Turn.{Turn}
 use Rattle.calls.specs.Meaning.{Turned}
@@ -52,10 +48,6 @@ withCalls cs x = record { number = x .number; seconds = cs ++ x .seconds }
 
 one-more : (cs : List ℕ) (c : ℕ) (x : Taken) → withCalls cs (withCall c x) ≡ withCalls (cs ++ (c ∷ [])) x
 one-more cs c x = ap (λ ds. record { number = x .number; seconds = ds }) (sym (append-assoc cs (c ∷ []) (x .seconds)))
-
-onto-more : (us xs : List ℕ) (v : ℕ) {n : ℕ} → length us ≡ n → n < length xs → set (onto us xs) n v ≡ onto (us ++ (v ∷ [])) xs
-unfolding onto
-onto-more us xs v {n} e h = rw (e, drop-cons xs n 0 h, set-at us (getD xs n 0) (drop (suc n) xs) v n e, append-assoc us (v ∷ []), length-append us (v ∷ []), e, add-one) refl
 
 -- after some lines, whose calls stand at the start of the buffer
 pub record Importing (list out₀ : List ℕ) (at calls : ℕ) (out : List ℕ) : Type 0 where

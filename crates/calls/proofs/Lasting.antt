@@ -1,12 +1,10 @@
 -- A call by its times, case by case.
 -- Assumes nothing.
-use mathlib.Core.Path.{_≡_, refl, sym, ap, _∙_}
-use mathlib.Core.Bool.{Bool, true, false, _&&_, cond}
+use mathlib.Core.Path.{_≡_}
 use Prim.Native.Nat.{ℕ, _-_, _≤_, _<_}
 use borrow.Author.Tests.{le-leb, lt-leb}
-use lib.Dec.{leb}
 use Rattle.model.specs.Calls as Calls
-use Rattle.model.specs.Calls.{second, absent, malformed, lasted, wrong, lasting, timed}
+use Rattle.model.specs.Calls.{second, absent, lasted, wrong, lasting, timed}
 use Rattle.calls.specs.declared.time.Time.{Time}
 use Rattle.calls.specs.declared.time.Time.the-variants.{Absent, At, Malformed}
 use Rattle.calls.specs.Meaning.{timeOf}

@@ -4,17 +4,17 @@
 use mathlib.Core.Path.{_≡_, refl, sym, ap, _∙_}
 use mathlib.Core.Logic.{_≢_}
 use mathlib.Core.Bool.{Bool, true, false, _&&_, cond}
-use mathlib.Core.List.{List, [], _∷_, _++_, append-assoc, append-nil}
-use Prim.Native.Nat.{ℕ, zero, suc, _+_, _≤_, _<_}
+use mathlib.Core.List.{List, [], _∷_, _++_, append-nil}
+use Prim.Native.Nat.{ℕ, suc, _+_, _≤_, _<_}
 use native.Mathlib.Decide.{decLt}
 use native.Mathlib.Numerals.{add-one}
 use native.Mathlib.Omega.{arith}
 use borrow.Author.Tests.{lt-ltb, le-ltb, eq-eqb, ne-eqb, eqb-true}
-use lib.Dec.{ltb, eqb}
+use lib.Dec.{eqb}
 use lib.ListN.{length, getD, take, drop, drop-of-length-le}
 use lib.Seq.{drop-cons, take-suc}
 use Rattle.algebra.proofs.Tests.{true-false}
-use Rattle.model.specs.Calls.{DQUOTE, Parsed, found, unread, alone, withByte, quoted, isDigit, allDigits, Time, malformed, time}
+use Rattle.model.specs.Calls.{DQUOTE, Parsed, found, unread, alone, withByte, quoted, isDigit, allDigits, malformed, time}
 use Rattle.calls.specs.Meaning.{timedField, closedAt, isFirst}
 use Rattle.calls.proofs.Times.{no-time}
 use Rattle.calls.proofs.Scanning.{after, after-byte, after-nothing}

@@ -2,7 +2,7 @@
 -- Assumes nothing.
 use mathlib.Core.Path.{_≡_, refl, sym, ap, _∙_}
 use mathlib.Core.Bool.{Bool, true, false, cond}
-use mathlib.Core.List.{List, [], _∷_}
+use mathlib.Core.List.{List}
 use Prim.Native.Nat.{ℕ, _+_, _-_, _≤_}
 use native.Mathlib.Omega.{arith}
 use lib.Dec.{ltb}
@@ -11,7 +11,6 @@ use lib.Seq.{drop-drop}
 use Rattle.model.specs.Calls.{found, unread, lasted, wrong, lineAt, secondsOf, nextOf, lineNumber}
 use Rattle.model.specs.Refusing.{firstFailed}
 use Rattle.calls.specs.declared.line.Line.{Line}
-use Rattle.calls.specs.declared.Turn.{Turn}
 use Rattle.calls.specs.Meaning.{callOf, lineOf, Turned}
 use Rattle.calls.proofs.Fields.{rest-from}
 

@@ -1,7 +1,6 @@
 -- `import` meets its contract. Each line that is taken fills a place of the buffer, which is the loop's measure.
 -- Assumes nothing.
 use Prim.Native.Nat.{_-_}
-use native.Mathlib.Omega.{arith}
 use borrow.Author.Needs.{needs}
 use lib.ListN.{length}
 use Rattle.calls.proofs.Importing.{Importing, importing-start, importing-more, importing-stops, importing-ends, room-left, less-room, out-length, within-out}
@@ -14,14 +13,14 @@ Inv-loop list out₀ at₀ calls₀ out at calls = Importing list out₀ at call
 abbrev μ-loop : tie.MeasureT-loop
 μ-loop list out₀ at₀ calls₀ out at calls = length out₀ - calls
 
-mul-out : tie.Need-mul-out Inv-loop μ-loop
-mul-out c = let h = room-left (c .before .before .before .before .loop .inv) (search needs) (c .before .before .take-line .ensures) (search needs) in search (needs, h)
-
 slice-write-out : tie.Need-slice-write-out Inv-loop μ-loop
 slice-write-out c = search (needs, room-left)
 
+mul-out : tie.Need-mul-out Inv-loop μ-loop
+mul-out c = search (needs, slice-write-out c)
+
 add-calls : tie.Need-add-calls Inv-loop μ-loop
-add-calls c = let h = room-left (c .before .before .before .before .loop .inv) (search needs) (c .before .before .take-line .ensures) (search needs) in search (needs, h)
+add-calls c = search (needs, slice-write-out c)
 
 loop-less : tie.Need-loop-less Inv-loop μ-loop
 loop-less c = search (needs, less-room)

@@ -1,7 +1,6 @@
 -- `quoted_length` meets its contract.
 -- Assumes nothing.
 use Prim.Native.Nat.{_-_}
-use native.Mathlib.Omega.{arith}
 use borrow.Author.Needs.{needs}
 use lib.ListN.{length}
 use Rattle.calls.proofs.Quoting.{Quoting, quoting-start, quoting-more, quoting-two, quoting-closed, quoting-breaks, quoting-ends}

@@ -1,7 +1,6 @@
 -- `read_from` meets its contract.
 -- Assumes nothing.
 use mathlib.Core.Path.{refl}
-use native.Mathlib.Omega.{arith}
 use borrow.Author.Needs.{needs}
 use Rattle.calls.proofs.Fields.{field-from}
 use Rattle.calls.proofs.field.read_from.Statement.{statement}
