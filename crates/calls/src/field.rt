@@ -1,7 +1,7 @@
 // "field = (escaped / non-escaped)". A field here is the RFC's, a part of a line. It is read where it stands, and its value is looked at as a time only.
 ghost use mathlib.Core.Path.{_≡_};
 ghost use mathlib.Core.List.{List};
-ghost use Prim.Native.Nat.{ℕ, _+_, _≤_};
+ghost use Prim.Native.Nat.{ℕ, _≤_};
 ghost use lib.ListN.{length, take, drop};
 ghost use Rattle.model.specs.Calls as Calls;
 ghost use Rattle.calls.specs.Meaning.{timedField, closedAt, fieldOf, afterComma, isFirst};
