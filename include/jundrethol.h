@@ -30,7 +30,7 @@ extern "C" {
 #endif
 
 /* The version of this header and of the archive that is built beside it. While the first number stays, refusals and places in counts keep their
- * numbers, functions their parameters, and a call that answers 0, 21 to 26 or 31 to 33 leaves the same values. A higher second number may add functions,
+ * numbers, functions their parameters, and a function call that answers 0, 21 to 26 or 31 to 33 leaves the same values. A higher second number may add functions,
  * refusals, and counts after the last, and may run what was refused with 1 to 20. */
 #define JUNDRETHOL_VERSION_MAJOR 1
 #define JUNDRETHOL_VERSION_MINOR 1
@@ -84,7 +84,7 @@ extern "C" {
 #define JUNDRETHOL_COUNT_OPENINGS 4
 #define JUNDRETHOL_COUNT_REVEALED 5
 
-/* No call takes more bytes of stack than these, with its arguments and return address. */
+/* No function call takes more bytes of stack than these, with its arguments and return address. */
 #define JUNDRETHOL_STACK 16384
 
 /* Runs a sheet.
@@ -136,7 +136,8 @@ uint32_t jundrethol_decode(uint32_t field, uint32_t value, int64_t *number);
  *
  * list     is comma-separated text as RFC 4180 describes, without a header line. A line is one record of the RFC's grammar, ended by CR LF or
  *          by the list's end: an empty list has no lines, and one CR LF at the end begins none. Its four fields are the name of the telephone
- *          line, and when the call was dialled, answered and ended, in seconds of the quarter. Any field may be quoted. A time is one to seven
+ *          line, and when the call was dialled, answered and ended, in seconds of the quarter. Any field may be quoted. Lines that end with LF
+ *          alone, and a tab or a byte above 7E (hexadecimal) anywhere, are 31. A time is one to seven
  *          digits once its quotes are taken off. Answered may be empty, which means that nobody picked up.
  * seconds  gets one number for each call, in order: ended minus answered, or 0 where nobody picked up.
  * calls    gets how many numbers were written to seconds, 0 if none. It is one number, not a list.

@@ -12,22 +12,22 @@ use lib.Seq.{take-all, drop-drop}
 use Rattle.algebra.proofs.Tests.{true-false}
 use Rattle.model.specs.Calls.{COMMA, DQUOTE, Parsed, found, unread, plain, quoted, field, Time, time}
 use Rattle.calls.specs.declared.field.Field.{Field}
-use Rattle.calls.specs.Meaning.{timedField, closedAt, fieldOf, afterComma, isFirst}
+use Rattle.calls.specs.Meaning.{fieldAsTime, closedAt, fieldOf, afterComma, isFirst}
 
 -- what is left of a text from a place on, as a part that is lent
 pub rest-from : (a : ℕ) (s : List ℕ) → take (length s - a) (drop a s) ≡ drop a s
 rest-from a s = take-all (length s - a) (drop a s) (rw length-drop (omega arith))
 
 -- a field in quotes, of which the first stands at the text's start, by the place of the last in what follows it
-module _ (text : List ℕ) (size : ℕ) (e : closedAt (take (length text - 1) (drop 1 text)) size ≡ timedField (quoted (take (length text - 1) (drop 1 text)))) where
-  here : closedAt (drop 1 text) size ≡ timedField (quoted (drop 1 text))
+module _ (text : List ℕ) (size : ℕ) (e : closedAt (take (length text - 1) (drop 1 text)) size ≡ fieldAsTime (quoted (take (length text - 1) (drop 1 text)))) where
+  here : closedAt (drop 1 text) size ≡ fieldAsTime (quoted (drop 1 text))
   here = rw (rest-from 1 text) at e
 
-  pub not-closed : {x : Parsed Time} → length text - 1 ≤ size → x ≡ unread → x ≡ timedField (quoted (drop 1 text))
+  pub not-closed : {x : Parsed Time} → length text - 1 ≤ size → x ≡ unread → x ≡ fieldAsTime (quoted (drop 1 text))
   unfolding closedAt
   not-closed h q = q ∙ (rw (le-ltb size (length (drop 1 text)) (rw length-drop h)) at here)
 
-  pub closed : {t : Time} → size < length text - 1 → t ≡ time (take (1 + size - 1) (drop 1 text)) → found t (drop (size + 2) text) ≡ timedField (quoted (drop 1 text))
+  pub closed : {t : Time} → size < length text - 1 → t ≡ time (take (1 + size - 1) (drop 1 text)) → found t (drop (size + 2) text) ≡ fieldAsTime (quoted (drop 1 text))
   unfolding closedAt
   closed h q =
       let z : 1 + size - 1 ≡ size = omega arith in
@@ -41,27 +41,27 @@ unfolding isFirst
 quote-some [] q e = absurd (true-false (sym e ∙ q))
 quote-some (b ∷ s) q e = omega arith
 
-pub is-escaped : (text : List ℕ) {r : Bool} {x : Parsed Time} → r ≡ isFirst DQUOTE (drop 0 text) → r ≡ true → x ≡ timedField (quoted (drop 1 text))
-    → x ≡ timedField (field text)
+pub is-escaped : (text : List ℕ) {r : Bool} {x : Parsed Time} → r ≡ isFirst DQUOTE (drop 0 text) → r ≡ true → x ≡ fieldAsTime (quoted (drop 1 text))
+    → x ≡ fieldAsTime (field text)
 unfolding field isFirst
 is-escaped [] q e f = absurd (true-false (sym e ∙ q))
 is-escaped (b ∷ s) q e f = f ∙ rw (← q, e) refl
 
-pub is-plain : (text : List ℕ) {r : Bool} {x : Parsed Time} → r ≡ isFirst DQUOTE (drop 0 text) → r ≡ false → x ≡ timedField (plain text)
-    → x ≡ timedField (field text)
+pub is-plain : (text : List ℕ) {r : Bool} {x : Parsed Time} → r ≡ isFirst DQUOTE (drop 0 text) → r ≡ false → x ≡ fieldAsTime (plain text)
+    → x ≡ fieldAsTime (field text)
 unfolding field plain isFirst
 is-plain [] q e f = f
 is-plain (b ∷ s) q e f = f ∙ rw (← q, e) refl
 
 -- a field from a place on
-pub field-from : (text : List ℕ) (at : ℕ) (f g : Field) → fieldOf (take (length text - at) (drop at text)) f ≡ timedField (field (take (length text - at) (drop at text)))
-    → g ≡ record { found = f .found; time = f .time; next = at + f .next } → fieldOf text g ≡ timedField (field (drop at text))
+pub field-from : (text : List ℕ) (at : ℕ) (f g : Field) → fieldOf (take (length text - at) (drop at text)) f ≡ fieldAsTime (field (take (length text - at) (drop at text)))
+    → g ≡ record { found = f .found; time = f .time; next = at + f .next } → fieldOf text g ≡ fieldAsTime (field (drop at text))
 unfolding fieldOf
 field-from text at f g e q =
     rw (q, ← drop-drop (f .next) at text) (rw (rest-from at text) at e)
 
 -- after a comma, and where there is none
-after-it : {x : Parsed Time} (t : Time) (s : List ℕ) → isFirst COMMA s ≡ true → x ≡ timedField (field (drop 1 s)) → x ≡ afterComma (found t s)
+after-it : {x : Parsed Time} (t : Time) (s : List ℕ) → isFirst COMMA s ≡ true → x ≡ fieldAsTime (field (drop 1 s)) → x ≡ afterComma (found t s)
 unfolding isFirst afterComma
 after-it t [] q e = absurd (true-false (sym q))
 after-it t (b ∷ s) q e = rw q e
@@ -72,7 +72,7 @@ none-after t [] q e = e
 none-after t (b ∷ s) q e = rw q e
 
 -- by whether there is a field before, and a comma after it
-comma-there : (f : Bool) (t : Time) (s : List ℕ) {x : Parsed Time} → f && isFirst COMMA s ≡ true → x ≡ timedField (field (drop 1 s))
+comma-there : (f : Bool) (t : Time) (s : List ℕ) {x : Parsed Time} → f && isFirst COMMA s ≡ true → x ≡ fieldAsTime (field (drop 1 s))
     → x ≡ afterComma (cond f (found t s) unread)
 comma-there true t s q e = after-it t s q e
 comma-there false t s q e = absurd (true-false (sym q))
@@ -99,9 +99,9 @@ module _ (text : List ℕ) (before : Field) {r : Bool} {p : Bool} (q : r ≡ (be
   pub within : r ≡ true → before .next + 1 ≤ length text
   within e = omega (arith, comma-within (before .found) (before .next) text (here-is ∙ e))
 
-  pub comma : {x : Parsed Time} → r ≡ true → x ≡ timedField (field (drop (before .next + 1) text)) → x ≡ afterComma (fieldOf text before)
+  pub comma : {x : Parsed Time} → r ≡ true → x ≡ fieldAsTime (field (drop (before .next + 1) text)) → x ≡ afterComma (fieldOf text before)
   unfolding fieldOf
-  comma e f = comma-there (before .found) _ _ (here-is ∙ e) (f ∙ ap (λ s. timedField (field s)) (sym (drop-drop 1 (before .next) text)))
+  comma e f = comma-there (before .found) _ _ (here-is ∙ e) (f ∙ ap (λ s. fieldAsTime (field s)) (sym (drop-drop 1 (before .next) text)))
 
   pub no-comma : {x : Parsed Time} → r ≡ false → x ≡ unread → x ≡ afterComma (fieldOf text before)
   unfolding fieldOf

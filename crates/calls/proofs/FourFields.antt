@@ -7,10 +7,10 @@ use Prim.Native.Nat.{ℕ}
 use lib.ListN.{drop}
 use native.Mathlib.Omega.{arith}
 use Rattle.model.specs.Calls as Calls
-use Rattle.model.specs.Calls.{found, unread, field, isEnd, Time, lasting, timed, lineAt}
+use Rattle.model.specs.Calls.{found, unread, field, isEnd, Time, lasting, withTime, lineAt}
 use Rattle.calls.specs.declared.field.Field.{Field}
 use Rattle.calls.specs.declared.call.Call.{Call}
-use Rattle.calls.specs.Meaning.{timeOf, timedField, fieldOf, afterComma, callOf, lineOf}
+use Rattle.calls.specs.Meaning.{timeOf, fieldAsTime, fieldOf, afterComma, callOf, lineOf}
 use Rattle.calls.proofs.Lines.{timeIn, callBy, lineFrom, line-from}
 
 apart : {A : Type 0} {x : A} {rest : List ℕ} → found x rest ≡ unread → ⊥
@@ -38,7 +38,7 @@ last-of text ts true t at next e call q d h = rw (← q, ← d, ← h refl) refl
 last-of text ts false t at next e call q d h = refl
 
 module _ (text : List ℕ) (name dialled answered ended : Field)
-    (first : fieldOf text name ≡ timedField (field text))
+    (first : fieldOf text name ≡ fieldAsTime (field text))
     (second : fieldOf text dialled ≡ afterComma (fieldOf text name))
     (third : fieldOf text answered ≡ afterComma (fieldOf text dialled))
     (fourth : fieldOf text ended ≡ afterComma (fieldOf text answered)) where
@@ -47,7 +47,7 @@ module _ (text : List ℕ) (name dialled answered ended : Field)
   chain = line-from text ∙ rw (fourth, third, second, first) refl
 
   pub four-fields : {e r : Bool} (next : ℕ) (call : Call) → e ≡ isEnd (drop (ended .next) text) → drop next text ≡ drop 2 (drop (ended .next) text)
-      → callOf call ≡ timed (timeOf (dialled .time)) (λ d. timed (timeOf (ended .time)) (λ z. lasting d (timeOf (answered .time)) z))
+      → callOf call ≡ withTime (timeOf (dialled .time)) (λ d. withTime (timeOf (ended .time)) (λ z. lasting d (timeOf (answered .time)) z))
       → r ≡ (ended .found && e)
       → lineOf text (record { found = r; call = call; next = next }) ≡ lineAt text
   unfolding lineOf fieldOf

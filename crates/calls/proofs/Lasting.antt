@@ -4,7 +4,7 @@ use mathlib.Core.Path.{_≡_}
 use Prim.Native.Nat.{ℕ, _-_, _≤_, _<_}
 use borrow.Author.Tests.{le-leb, lt-leb}
 use Rattle.model.specs.Calls as Calls
-use Rattle.model.specs.Calls.{second, absent, lasted, wrong, lasting, timed}
+use Rattle.model.specs.Calls.{second, absent, lasted, wrong, lasting, withTime}
 use Rattle.calls.specs.declared.time.Time.{Time}
 use Rattle.calls.specs.declared.time.Time.the-variants.{Absent, At, Malformed}
 use Rattle.calls.specs.Meaning.{timeOf}
@@ -42,11 +42,11 @@ module _ {t : Time} {x : Calls.Call} where
   unfolding lasting
   lasting-bad dialled ended q e = rw q e
 
-  pub timed-at : (f : ℕ → Calls.Call) {a : ℕ} → t ≡ At a → x ≡ f a → x ≡ timed (timeOf t) f
+  pub timed-at : (f : ℕ → Calls.Call) {a : ℕ} → t ≡ At a → x ≡ f a → x ≡ withTime (timeOf t) f
   timed-at f q e = rw q e
 
-  pub timed-none : (f : ℕ → Calls.Call) → t ≡ Absent → x ≡ wrong → x ≡ timed (timeOf t) f
+  pub timed-none : (f : ℕ → Calls.Call) → t ≡ Absent → x ≡ wrong → x ≡ withTime (timeOf t) f
   timed-none f q e = rw q e
 
-  pub timed-bad : (f : ℕ → Calls.Call) → t ≡ Malformed → x ≡ wrong → x ≡ timed (timeOf t) f
+  pub timed-bad : (f : ℕ → Calls.Call) → t ≡ Malformed → x ≡ wrong → x ≡ withTime (timeOf t) f
   timed-bad f q e = rw q e

@@ -10,8 +10,8 @@ use borrow.Author.Tests.{eq-eqb, ne-eqb, eqb-true}
 use lib.Dec.{eqb}
 use lib.ListN.{length, getD, drop, length-append}
 use Rattle.algebra.proofs.Tests.{choice}
-use Rattle.model.specs.Calls.{COMMA, CRLF, Parsed, found, unread, withByte, isTEXTDATA, alone, DQUOTE, plain, quoted, field, isEnd, withField, afterField, fields, readLine, Time, absent, malformed, time, Call, lasting, timed, call, fourFields, lineAt}
-use Rattle.calls.specs.Meaning.{timedField, afterComma}
+use Rattle.model.specs.Calls.{COMMA, CRLF, Parsed, found, unread, withByte, isTEXTDATA, alone, DQUOTE, plain, quoted, field, isEnd, withField, afterField, fields, readLine, Time, absent, malformed, time, Call, lasting, withTime, call, fourFields, lineAt}
+use Rattle.calls.specs.Meaning.{fieldAsTime, afterComma}
 
 -- what a field leaves is no longer than the text
 abbrev Within : ℕ → Parsed (List ℕ) → Type 0
@@ -49,7 +49,7 @@ within-field (b ∷ s) =
 
 -- the call of four fields by their times alone
 abbrev pub callBy : List Time → Call
-callBy ts = timed (getD ts 1 absent) (λ dialled. timed (getD ts 3 absent) (λ ended. lasting dialled (getD ts 2 absent) ended))
+callBy ts = withTime (getD ts 1 absent) (λ dialled. withTime (getD ts 3 absent) (λ ended. lasting dialled (getD ts 2 absent) ended))
 
 getD-times : (fs : List (List ℕ)) (i : ℕ) → getD (map time fs) i absent ≡ time (getD fs i [])
 unfolding time
@@ -139,47 +139,47 @@ comma-no-end b (c ∷ s) e = rw (eqb-true b COMMA e) refl
 -- the last field, and one with fields after it
 module _ (m : ℕ) (us : List (List ℕ)) where
   abbrev Reads : ℕ → Parsed (List ℕ) → Type 0
-  Reads n x = fourFields (before us (afterField (fields m) x)) ≡ lineFrom n (map time us) (timedField x)
+  Reads n x = fourFields (before us (afterField (fields m) x)) ≡ lineFrom n (map time us) (fieldAsTime x)
 
   -- by whether a comma follows, and whether the line ends
   last-by : (v : List ℕ) (b : ℕ) (s : List ℕ) → length us ≡ 3 → (r e : Bool) → eqb b COMMA ≡ r → isEnd (b ∷ s) ≡ e → Reads 0 (found v (b ∷ s))
-  unfolding fourFields lineFrom timedField
+  unfolding fourFields lineFrom fieldAsTime
   last-by v b s h true e q z =
       rw (q, comma-no-end b s q) (ap fourFields (before-field us v (fields m s)) ∙ too-many (us ++ (v ∷ [])) (fields m s) (omega (arith, one-more us v)) (some-fields m s))
   last-by v b s h false true q z = rw (q, z) (four us v (b ∷ s) h)
   last-by v b s h false false q z = rw (q, z) refl
 
   last-field : (x : Parsed (List ℕ)) → length us ≡ 3 → Reads 0 x
-  unfolding fourFields lineFrom timedField isEnd
+  unfolding fourFields lineFrom fieldAsTime isEnd
   last-field unread h = refl
   last-field (found v []) h = four us v [] h
   last-field (found v (b ∷ s)) h = last-by v b s h (eqb b COMMA) (isEnd (b ∷ s)) refl refl
 
-  module _ (n : ℕ) (after : (vs : List (List ℕ)) (s : List ℕ) → length vs + n ≡ 3 → length s < m → fourFields (before vs (fields m s)) ≡ lineFrom n (map time vs) (timedField (field s))) where
+  module _ (n : ℕ) (after : (vs : List (List ℕ)) (s : List ℕ) → length vs + n ≡ 3 → length s < m → fourFields (before vs (fields m s)) ≡ lineFrom n (map time vs) (fieldAsTime (field s))) where
     ends-short : (v rest : List ℕ) → length us + suc n ≡ 3 → (ts : List Time) → fourFields (found (us ++ (v ∷ [])) rest) ≡ lineFrom n ts unread
     ends-short v rest h ts = not-four (us ++ (v ∷ [])) rest (λ e. omega (arith, e, h, one-more us v)) ∙ sym (from-missing n ts)
 
     next-by : (v : List ℕ) (b : ℕ) (s : List ℕ) → length us + suc n ≡ 3 → length s < m → (r e : Bool) → eqb b COMMA ≡ r → isEnd (b ∷ s) ≡ e → Reads (suc n) (found v (b ∷ s))
-    unfolding fourFields lineFrom timedField afterComma
+    unfolding fourFields lineFrom fieldAsTime afterComma
     next-by v b s h k true e q z =
         rw (q, ← times-more us v) (ap fourFields (before-field us v (fields m s)) ∙ after (us ++ (v ∷ [])) s (omega (arith, h, one-more us v)) k)
     next-by v b s h k false true q z = rw (q, z) (ends-short v (b ∷ s) h _)
     next-by v b s h k false false q z = rw (q, z) (sym (from-missing n _))
 
     next-field : (x : Parsed (List ℕ)) → Within m x → length us + suc n ≡ 3 → Reads (suc n) x
-    unfolding fourFields lineFrom timedField afterComma
+    unfolding fourFields lineFrom fieldAsTime afterComma
     next-field unread w h = sym (from-missing n _)
     next-field (found v []) w h = ends-short v [] h _
     next-field (found v (b ∷ s)) w h = next-by v b s h w (eqb b COMMA) (isEnd (b ∷ s)) refl refl
 
 line-read : (n m : ℕ) (us : List (List ℕ)) (text : List ℕ) → length us + n ≡ 3 → length text < m
-    → fourFields (before us (fields m text)) ≡ lineFrom n (map time us) (timedField (field text))
+    → fourFields (before us (fields m text)) ≡ lineFrom n (map time us) (fieldAsTime (field text))
 unfolding fields
 line-read n zero us text h k = absurd (omega arith)
 line-read zero (suc m) us text h k = last-field m us (field text) (omega (arith, h))
 line-read (suc n) (suc m) us text h k =
     next-field m us n (λ vs s. line-read n m vs s) (field text) (within-more (length text) m (field text) (omega arith) (within-field text)) h
 
-pub line-from : (text : List ℕ) → lineAt text ≡ lineFrom 3 [] (timedField (field text))
+pub line-from : (text : List ℕ) → lineAt text ≡ lineFrom 3 [] (fieldAsTime (field text))
 unfolding lineAt readLine
 line-from text = ap fourFields (sym (before-none (fields (suc (length text)) text))) ∙ line-read 3 (suc (length text)) [] text refl (omega arith)

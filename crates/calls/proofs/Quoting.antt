@@ -15,7 +15,7 @@ use lib.ListN.{length, getD, take, drop, drop-of-length-le}
 use lib.Seq.{drop-cons, take-suc}
 use Rattle.algebra.proofs.Tests.{true-false}
 use Rattle.model.specs.Calls.{DQUOTE, Parsed, found, unread, alone, withByte, quoted, isDigit, allDigits, malformed, time}
-use Rattle.calls.specs.Meaning.{timedField, closedAt, isFirst}
+use Rattle.calls.specs.Meaning.{fieldAsTime, closedAt, isFirst}
 use Rattle.calls.proofs.Times.{no-time}
 use Rattle.calls.proofs.Scanning.{after, after-byte, after-nothing}
 
@@ -117,20 +117,20 @@ module _ {text : List ℕ} {i : ℕ} (Q : Quoting text i) where
       }
 
   pub quoting-closed : {r : Bool} → i < length text → getD text i 0 ≡ DQUOTE → r ≡ isFirst DQUOTE (drop (i + 1) text) → r ≡ false
-      → closedAt text i ≡ timedField (quoted text)
-  unfolding closedAt timedField
+      → closedAt text i ≡ fieldAsTime (quoted text)
+  unfolding closedAt fieldAsTime
   quoting-closed h d q e =
       rw (lt-ltb i (length text) h, step h, eq-eqb _ DQUOTE d, ← add-one i, ← q, e) (ap (λ t. found t (drop (i + 1) text)) (same-time (Q .same) ∙ ap time (sym (append-nil (Q .said)))))
 
-  open-end : quoted text ≡ unread → closedAt text (length text) ≡ timedField (quoted text)
-  unfolding closedAt timedField
+  open-end : quoted text ≡ unread → closedAt text (length text) ≡ fieldAsTime (quoted text)
+  unfolding closedAt fieldAsTime
   open-end e = rw (le-ltb (length text) (length text) (omega arith), e) refl
 
   pub quoting-breaks : {r : Bool} → i < length text → getD text i 0 ≢ DQUOTE → r ≡ alone (getD text i 0) → r ≡ false
-      → closedAt text (length text) ≡ timedField (quoted text)
+      → closedAt text (length text) ≡ fieldAsTime (quoted text)
   quoting-breaks h n q e = open-end (step h ∙ rw (ne-eqb _ DQUOTE n, ← q, e) refl)
 
-  pub quoting-ends : length text ≤ i → closedAt text i ≡ timedField (quoted text)
+  pub quoting-ends : length text ≤ i → closedAt text i ≡ fieldAsTime (quoted text)
   unfolding quoted
   quoting-ends h =
       let z : i ≡ length text = omega (arith, Q .within) in

@@ -9,7 +9,7 @@ use native.Mathlib.Omega.{arith}
 use lib.ListN.{length, getD, take, drop, drop-of-length-le}
 use lib.Seq.{drop-cons, take-suc}
 use Rattle.model.specs.Calls.{Parsed, found, unread, isTEXTDATA, withByte, plain, Time, time}
-use Rattle.calls.specs.Meaning.{timedField}
+use Rattle.calls.specs.Meaning.{fieldAsTime}
 
 -- bytes u that were read before
 abbrev pub after : List ℕ → Parsed (List ℕ) → Parsed (List ℕ)
@@ -58,6 +58,6 @@ module _ {text : List ℕ} {i : ℕ} (P : Plain text i) where
 
 -- a plain field of i bytes as a time
 pub plain-time : (text : List ℕ) (i : ℕ) {t : Time} → plain text ≡ found (take i text) (drop i text) → t ≡ time (take i text)
-    → found t (drop i text) ≡ timedField (plain text)
-unfolding timedField
+    → found t (drop i text) ≡ fieldAsTime (plain text)
+unfolding fieldAsTime
 plain-time text i e q = rw (e, q) refl

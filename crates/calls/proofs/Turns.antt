@@ -22,10 +22,10 @@ tested true true c room next = refl
 tested true false c room next = refl
 tested false t c room next = refl
 
-pub number-of : (line : Line) (room : ℕ) (s : List ℕ) {a b n : ℕ} → a ≡ cond (ltb 0 room) 0 33 → b ≡ cond (line .call .timed) a 32 → n ≡ cond (line .found) b 31
+pub number-of : (line : Line) (room : ℕ) (s : List ℕ) {a b n : ℕ} → a ≡ cond (ltb 0 room) 0 33 → b ≡ cond (line .call .good) a 32 → n ≡ cond (line .found) b 31
     → n ≡ lineNumber room (lineOf s line)
 unfolding lineOf callOf
-number-of line room s p q r = rw (r, q, p) (tested (line .found) (line .call .timed) (line .call .seconds) room (drop (line .next) s))
+number-of line room s p q r = rw (r, q, p) (tested (line .found) (line .call .good) (line .call .seconds) room (drop (line .next) s))
 
 -- the call and the rest of a line that is not refused
 good-line : (f t : Bool) (c room : ℕ) (next : List ℕ) → lineNumber room (cond f (found (cond t (lasted c) wrong) next) unread) ≡ 0
@@ -43,7 +43,7 @@ module _ (list : List ℕ) (at room : ℕ) (line : Line) {n : ℕ}
 
   good : n ≡ 0 → (secondsOf (lineAt (drop at list)) ≡ line .call .seconds) × (nextOf (lineAt (drop at list)) ≡ drop (line .next) (drop at list))
   unfolding lineOf callOf
-  good z = rw here (good-line (line .found) (line .call .timed) (line .call .seconds) room (drop (line .next) (drop at list)) (sym (q (drop at list)) ∙ z))
+  good z = rw here (good-line (line .found) (line .call .good) (line .call .seconds) room (drop (line .next) (drop at list)) (sym (q (drop at list)) ∙ z))
 
   pub turned : line .next ≤ length (take (length list - at) (drop at list)) → at ≤ length list
       → Turned list at room (record { number = n; seconds = line .call .seconds; next = at + line .next })

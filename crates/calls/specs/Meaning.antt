@@ -22,9 +22,9 @@ timeOf (At x) = Calls.second x
 timeOf Malformed = Calls.malformed
 
 -- a field by its value as a time: all that is looked at
-unfoldable pub timedField : Parsed (List ℕ) → Parsed Calls.Time
-timedField (found v rest) = found (Calls.time v) rest
-timedField unread = unread
+unfoldable pub fieldAsTime : Parsed (List ℕ) → Parsed Calls.Time
+fieldAsTime (found v rest) = found (Calls.time v) rest
+fieldAsTime unread = unread
 
 -- a field in quotes, after the opening quote, by the place of the closing one; at the text's end there is none
 unfoldable pub closedAt : List ℕ → ℕ → Parsed Calls.Time
@@ -37,7 +37,7 @@ fieldOf s r = cond (r .found) (found (timeOf (r .time)) (drop (r .next) s)) unre
 unfoldable pub afterComma : Parsed Calls.Time → Parsed Calls.Time
 afterComma unread = unread
 afterComma (found t []) = unread
-afterComma (found t (b ∷ s)) = cond (eqb b COMMA) (timedField (Calls.field s)) unread
+afterComma (found t (b ∷ s)) = cond (eqb b COMMA) (fieldAsTime (Calls.field s)) unread
 
 -- whether a byte stands at the start of a text
 unfoldable pub isFirst : ℕ → List ℕ → Bool
@@ -45,7 +45,7 @@ isFirst b [] = false
 isFirst b (c ∷ s) = eqb c b
 
 unfoldable pub callOf : Call → Calls.Call
-callOf r = cond (r .timed) (Calls.lasted (r .seconds)) Calls.wrong
+callOf r = cond (r .good) (Calls.lasted (r .seconds)) Calls.wrong
 
 unfoldable pub lineOf : List ℕ → Line → Parsed Calls.Call
 lineOf s r = cond (r .found) (found (callOf (r .call)) (drop (r .next) s)) unread

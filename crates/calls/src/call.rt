@@ -7,7 +7,7 @@ use crate::time::Time;
 
 // Whether the times are good, and the seconds, 0 where they are not.
 pub struct Call {
-    pub timed: bool,
+    pub good: bool,
     pub seconds: u32,
 }
 
@@ -15,7 +15,7 @@ fn wrong() -> Call
     ensures { λ r. ⌜ callOf r ≡ Calls.wrong ⌝ }
 {
     Call {
-        timed: false,
+        good: false,
         seconds: 0,
     }
 }
@@ -25,7 +25,7 @@ fn lasted(from: u32, to: u32) -> Call
     ensures { λ r. ⌜ callOf r ≡ Calls.lasted (to - from) ⌝ }
 {
     Call {
-        timed: true,
+        good: true,
         seconds: to - from,
     }
 }
@@ -49,7 +49,7 @@ fn not_picked_up(dialled: u32, ended: u32) -> Call
         return wrong();
     }
     Call {
-        timed: true,
+        good: true,
         seconds: 0,
     }
 }
@@ -66,7 +66,7 @@ fn lasting(dialled: u32, answered: Time, ended: u32) -> Call
 
 // The call that was dialled then.
 fn dialled_at(dialled: u32, answered: Time, ended: Time) -> Call
-    ensures { λ r. ⌜ callOf r ≡ Calls.timed (timeOf ended) (λ e. Calls.lasting dialled (timeOf answered) e) ⌝ }
+    ensures { λ r. ⌜ callOf r ≡ Calls.withTime (timeOf ended) (λ e. Calls.lasting dialled (timeOf answered) e) ⌝ }
 {
     match ended {
         Time::At(e) => lasting(dialled, answered, e),
@@ -77,7 +77,7 @@ fn dialled_at(dialled: u32, answered: Time, ended: Time) -> Call
 
 // The call with these times: only the answered one may be absent.
 pub fn call_between(dialled: Time, answered: Time, ended: Time) -> Call
-    ensures { λ r. ⌜ callOf r ≡ Calls.timed (timeOf dialled) (λ d. Calls.timed (timeOf ended) (λ e. Calls.lasting d (timeOf answered) e)) ⌝ }
+    ensures { λ r. ⌜ callOf r ≡ Calls.withTime (timeOf dialled) (λ d. Calls.withTime (timeOf ended) (λ e. Calls.lasting d (timeOf answered) e)) ⌝ }
 {
     match dialled {
         Time::At(d) => dialled_at(d, answered, ended),

@@ -4,7 +4,7 @@ ghost use mathlib.Core.List.{List};
 ghost use Prim.Native.Nat.{ℕ, _≤_};
 ghost use lib.ListN.{length, take, drop};
 ghost use Rattle.model.specs.Calls as Calls;
-ghost use Rattle.calls.specs.Meaning.{timedField, closedAt, fieldOf, afterComma, isFirst};
+ghost use Rattle.calls.specs.Meaning.{fieldAsTime, closedAt, fieldOf, afterComma, isFirst};
 use crate::letters;
 use crate::letters::COMMA;
 use crate::letters::DQUOTE;
@@ -45,7 +45,7 @@ fn plain_length(text: &[u8]) -> usize
 
 // "non-escaped = *TEXTDATA"
 fn non_escaped(text: &[u8]) -> Field
-    ensures { λ r. ⌜ (fieldOf (now (text .entry)) r ≡ timedField (Calls.plain (now (text .entry)))) × (r .next ≤ length (now (text .entry))) ⌝ }
+    ensures { λ r. ⌜ (fieldOf (now (text .entry)) r ≡ fieldAsTime (Calls.plain (now (text .entry)))) × (r .next ≤ length (now (text .entry))) ⌝ }
 {
     let size = plain_length(text);
     let time = read_time(&text[..size]);
@@ -58,7 +58,7 @@ fn non_escaped(text: &[u8]) -> Field
 
 // The place of the closing quote, after the opening one; the text's length where there is none.
 fn quoted_length(text: &[u8]) -> usize
-    ensures { λ r. ⌜ (r ≤ length (now (text .entry))) × (closedAt (now (text .entry)) r ≡ timedField (Calls.quoted (now (text .entry)))) ⌝ }
+    ensures { λ r. ⌜ (r ≤ length (now (text .entry))) × (closedAt (now (text .entry)) r ≡ fieldAsTime (Calls.quoted (now (text .entry)))) ⌝ }
 {
     let mut i = 0;
     while i < text.len() {
@@ -88,7 +88,7 @@ fn stands(text: &[u8], i: usize, b: u8) -> bool
 // "escaped = DQUOTE *(TEXTDATA / COMMA / CR / LF / 2DQUOTE) DQUOTE": the first quote stands at the text's start.
 fn escaped(text: &[u8]) -> Field
     requires { ⌜ 1 ≤ length (now text) ⌝ }
-    ensures { λ r. ⌜ (fieldOf (now (text .entry)) r ≡ timedField (Calls.quoted (drop 1 (now (text .entry))))) × (r .next ≤ length (now (text .entry))) ⌝ }
+    ensures { λ r. ⌜ (fieldOf (now (text .entry)) r ≡ fieldAsTime (Calls.quoted (drop 1 (now (text .entry))))) × (r .next ≤ length (now (text .entry))) ⌝ }
 {
     let size = quoted_length(&text[1..]);
     if text.len() - 1 <= size {
@@ -104,7 +104,7 @@ fn escaped(text: &[u8]) -> Field
 
 // The field at the text's start.
 pub fn read_field(text: &[u8]) -> Field
-    ensures { λ r. ⌜ (fieldOf (now (text .entry)) r ≡ timedField (Calls.field (now (text .entry)))) × (r .next ≤ length (now (text .entry))) ⌝ }
+    ensures { λ r. ⌜ (fieldOf (now (text .entry)) r ≡ fieldAsTime (Calls.field (now (text .entry)))) × (r .next ≤ length (now (text .entry))) ⌝ }
 {
     if stands(text, 0, DQUOTE) {
         escaped(text)
@@ -116,7 +116,7 @@ pub fn read_field(text: &[u8]) -> Field
 // The field from a place on.
 fn read_from(text: &[u8], at: usize) -> Field
     requires { ⌜ at ≤ length (now text) ⌝ }
-    ensures { λ r. ⌜ (fieldOf (now (text .entry)) r ≡ timedField (Calls.field (drop at (now (text .entry))))) × (r .next ≤ length (now (text .entry))) ⌝ }
+    ensures { λ r. ⌜ (fieldOf (now (text .entry)) r ≡ fieldAsTime (Calls.field (drop at (now (text .entry))))) × (r .next ≤ length (now (text .entry))) ⌝ }
 {
     let field = read_field(&text[at..]);
     let time = field.time;

@@ -33,7 +33,7 @@ fn line_number(line: Line, room: usize) -> u32
     ensures { λ r. ⌜ ((s : List ℕ) → r ≡ Calls.lineNumber room (lineOf s line)) ⌝ }
 {
     let call = line.call;
-    let others = failed(call.timed, 32, failed(0 < room, 33, 0));
+    let others = failed(call.good, 32, failed(0 < room, 33, 0));
     failed(line.found, 31, others)
 }
 

@@ -4,7 +4,7 @@ ghost use lib.ListN.{length};
 ghost use Rattle.calls_main.specs.Reading.{Within};
 use libc::STDIN_FILENO;
 
-// All bytes up to the input's end, more than there is room for, or a read that failed.
+// All bytes up to the input's end; so many that the room is filled, so that the end was not seen; or a read that failed.
 pub enum Input {
     Whole(usize),
     TooLong,

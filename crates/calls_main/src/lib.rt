@@ -10,7 +10,7 @@ use calls::Imported;
 use input::Input;
 use input::read_all;
 
-// One byte more than the longest list has that is read whole: 524,288 bytes.
+// The longest list that is read whole has 524,288 bytes. Room for one more shows that none follows.
 const BYTES_READ: usize = 524289;
 
 // No list that is read whole has more calls: one takes five bytes at least, as ,0,,0 does, and two for a line break before the next.

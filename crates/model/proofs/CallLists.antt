@@ -11,8 +11,8 @@ use lib.Dec.{ltb, eqb}
 use lib.ListN.{length, getD, drop}
 use Rattle.algebra.proofs.Tests.{choice}
 use Rattle.model.specs.Refusing.{firstFailed, given}
-use Rattle.model.specs.Calls.{CRLF, Derives, Parsed, found, unread, readLine, Call, lasted, wrong, call, fourFields, lineAt, isTimed, secondsOf, nextOf, lineNumber, Taken, stopsWith, withCall, turn, taken, Imported, imported}
-use Rattle.model.specs.CallLists.{FourFields, NoLine, Lasted, Lines, no-line, line, NumberOf, done, no-record, bad-times, full, Imports, CallLists}
+use Rattle.model.specs.Calls.{CRLF, Derives, Parsed, found, unread, readLine, Call, lasted, wrong, call, fourFields, lineAt, isGood, secondsOf, nextOf, lineNumber, Taken, stopsWith, withCall, turn, taken, Imported, imported}
+use Rattle.model.specs.CallLists.{FourFields, NoFourFields, Lasted, Lines, nothing-taken, line, NumberOf, done, not-four-fields, bad-times, full, Imports, CallLists}
 use Rattle.model.proofs.CallFound.{line-read}
 use Rattle.model.proofs.CallReading.{line-found, same-found, reads}
 use Rattle.model.proofs.CallTimes.{times-exact, Tells, tells, calls-exact, call-wrong}
@@ -32,7 +32,7 @@ record Line (text : List ℕ) (c : Call) (next : List ℕ) : Type 0 where
 -- what each reading of a line says of the text
 abbrev Says : List ℕ → Parsed Call → Type 0
 Says text (found c next) = Line text c next
-Says text unread = NoLine text
+Says text unread = NoFourFields text
 
 -- of the fields of a line, where they are four
 four : {text rest : List ℕ} (fs : List (List ℕ)) → length fs ≡ 4 → Derives text fs rest → Line text (call (getD fs 1 []) (getD fs 2 []) (getD fs 3 [])) (drop (length CRLF) rest)
@@ -54,10 +54,10 @@ says text = go (readLine text) refl
     go unread e = λ name dialled answered ended rest D. let z : _≡_ {A = ℕ} 0 1 = cc (line-read D) in omega arith
 
 -- a line that there is ends with 0, 32 or 33
-refused : (room : ℕ) (text : List ℕ) (x : Parsed Call) → Says text x → (lineNumber room x ≡ 31) ↔ NoLine text
+refused : (room : ℕ) (text : List ℕ) (x : Parsed Call) → Says text x → (lineNumber room x ≡ 31) ↔ NoFourFields text
 unfolding lineNumber firstFailed
 refused room text (found c next) L = (
-  λ e. absurd (choice (_≢ 31) (isTimed (found c next)) (λ _. choice (_≢ 31) (ltb 0 room) (λ _. omega arith) (λ _. omega arith)) (λ _. omega arith) e),
+  λ e. absurd (choice (_≢ 31) (isGood (found c next)) (λ _. choice (_≢ 31) (ltb 0 room) (λ _. omega arith) (λ _. omega arith)) (λ _. omega arith) e),
   λ n. absurd (n _ _ _ _ _ (L .fields-are)),
 )
 refused room text unread L = (λ _. L, λ _. refl)
@@ -71,7 +71,7 @@ record Takes (room : ℕ) (text : List ℕ) (x : Taken) : Type 0 where
 
 -- nothing is taken
 none-taken : {room : ℕ} {text : List ℕ} {number : ℕ} → NumberOf room text number → Takes room text (stopsWith number)
-none-taken {text = text} A = record { left = text; lines = no-line; number = rw sub-zero A; fits = omega arith }
+none-taken {text = text} A = record { left = text; lines = nothing-taken; number = rw sub-zero A; fits = omega arith }
 
 -- the line is taken, and then the lines after it
 one-taken : {room : ℕ} {text : List ℕ} {c : ℕ} {next : List ℕ} {x : Taken} → Line text (lasted c) next → Takes room next x → Takes (suc room) text (withCall c x)
@@ -92,7 +92,7 @@ turns room others k [] = none-taken (done refl)
 turns room others k (b ∷ s) = go room others k (lineAt (b ∷ s)) (says (b ∷ s))
   where
     go : (room : ℕ) (others : List ℕ → Taken) → Others room others → (x : Parsed Call) → Says (b ∷ s) x → Takes room (b ∷ s) (byLine room others x)
-    go room others k unread N = none-taken (no-record (λ q. omega (arith, ap length q)) N)
+    go room others k unread N = none-taken (not-four-fields (λ q. omega (arith, ap length q)) N)
     go room others k (found wrong next) L = none-taken (bad-times (L .fields-are) (L .told))
     go zero others k (found (lasted c) next) L = none-taken (full (L .fields-are) (L .told) refl)
     go (suc room) others k (found (lasted c) next) L = rw (lt-ltb 0 (suc room) (omega arith)) (one-taken L (k next))
@@ -121,7 +121,7 @@ turn-at room others (b ∷ s) n = refl
 turn-stops : {room : ℕ} (others : List ℕ → Taken) {text : List ℕ} {number : ℕ} → NumberOf room text number → turn room others text ≡ stopsWith number
 unfolding lineNumber firstFailed
 turn-stops others (done e) = rw e
-turn-stops {room} others {text} (no-record e n) = rw (turn-at room others text e, refused room text (lineAt text) (says text) .1 n)
+turn-stops {room} others {text} (not-four-fields e n) = rw (turn-at room others text e, refused room text (lineAt text) (says text) .1 n)
 turn-stops {room} others {text} (bad-times F n) = rw (turn-at room others text (not-empty F), bad-line F n)
 turn-stops {room} others {text} (full F L e) = rw (turn-at room others text (not-empty F), good-line F L, e)
 
@@ -138,7 +138,7 @@ goes-on room {text} F L = rw (turn-at (suc room) (taken room) text (not-empty F)
 -- so the lines of a list and its number say what is taken, and an import is what `imported` says
 taken-is : (room : ℕ) {text seconds left : List ℕ} {number : ℕ} → Lines text seconds left → length seconds ≤ room → NumberOf (room - length seconds) left number
     → taken room text ≡ record { number = number; seconds = seconds }
-taken-is room no-line h A = stops room (rw sub-zero at A)
+taken-is room nothing-taken h A = stops room (rw sub-zero at A)
 taken-is zero (line F L Ls) h A = absurd (omega arith)
 taken-is (suc room) (line F L Ls) h A = goes-on room F L ∙ ap (withCall _) (taken-is room Ls (omega arith) (rw suc-sub-suc at A))
 

@@ -8,7 +8,7 @@ use native.Mathlib.Omega.{arith}
 use lib.ListN.{length, drop, length-append, length-drop}
 use Rattle.algebra.specs.Lists.{All, none, one}
 use Rattle.model.specs.Calls.{COMMA, DQUOTE, CRLF, Quoted, nothing, a-TEXTDATA, a-COMMA, a-CR, a-LF, a-2DQUOTE, Field, escaped, non-escaped, Record, last, more, Ends, at-end, at-CRLF}
-use Rattle.model.specs.CallLists.{FourFields, Lasted, picked-up, nobody, Lines, no-line, line, NumberOf, done, no-record, bad-times, full}
+use Rattle.model.specs.CallLists.{FourFields, Lasted, picked-up, nobody, Lines, nothing-taken, line, NumberOf, done, not-four-fields, bad-times, full}
 use Rattle.model.proofs.CallDigits.{at-most}
 
 -- the text after a line break, or nothing at the text's end
@@ -22,7 +22,7 @@ seconds-most (picked-up D A E h q) = omega (arith, at-most E)
 seconds-most (nobody D E h) = omega arith
 
 pub all-seconds : {text seconds left : List ℕ} → Lines text seconds left → All (λ c. c ≤ 9999999) seconds
-all-seconds no-line = none
+all-seconds nothing-taken = none
 all-seconds (line F L Ls) = one (seconds-most L) (all-seconds Ls)
 
 -- a field is at least as long as its value
@@ -58,13 +58,13 @@ good-length F (nobody D E h) = omega (arith, four-length F, D .one, E .one)
 
 -- and where five bytes or more are left after it, a line break of two
 lines-length : {text seconds left : List ℕ} → Lines text seconds left → 5 ≤ length left → 7 * length seconds + length left ≤ length text
-lines-length no-line h = omega arith
+lines-length nothing-taken h = omega arith
 lines-length (line {rest = rest} F L Ls) h = omega (arith, good-length F L, lines-length Ls h, ap length (next-is (F .ends)), length-drop (length CRLF) rest)
 
 -- so a buffer that is full was too small for the list
 pub full-length : {room : ℕ} {text seconds left : List ℕ} {number : ℕ} → Lines text seconds left → NumberOf room left number → number ≡ 33
     → (room ≡ 0) × (7 * length seconds + 5 ≤ length text)
 full-length Ls (done e) z = absurd (omega arith)
-full-length Ls (no-record e n) z = absurd (omega arith)
+full-length Ls (not-four-fields e n) z = absurd (omega arith)
 full-length Ls (bad-times F n) z = absurd (omega arith)
 full-length Ls (full F L e) z = (e, omega (arith, good-length F L, lines-length Ls (omega (arith, good-length F L))))

@@ -10,7 +10,7 @@ use borrow.Author.Tests.{leb-true, leb-false}
 use lib.Dec.{T, leb, leb→le, le→leb}
 use lib.ListN.{length}
 use Rattle.algebra.proofs.Tests.{and-left, and-right, and-both, choice}
-use Rattle.model.specs.Calls.{Time, absent, second, malformed, allDigits, decimalFrom, time, Call, lasted, wrong, lasting, timed, call}
+use Rattle.model.specs.Calls.{Time, absent, second, malformed, allDigits, decimalFrom, time, Call, lasted, wrong, lasting, withTime, call}
 use Rattle.model.specs.CallLists.{Spells, Lasted, picked-up, nobody}
 use Rattle.model.proofs.CallBytes.{between}
 use Rattle.model.proofs.CallDigits.{digits-are, number-is, decimal}
@@ -60,7 +60,7 @@ times-exact s x = (λ e. subst (Says s) e (times s), found-in (time s) (times s)
 
 -- of a field that must be a time: what holds of a call with each time, and without one, holds of the call
 with-time : (P : Call → Type 0) (s : List ℕ) (f : ℕ → Call) (t : Time) → Says s t → ((x : ℕ) → Spells s x → P (f x)) → (((x : ℕ) → Spells s x → ⊥) → P wrong)
-    → P (timed t f)
+    → P (withTime t f)
 with-time P s f (second x) S k l = k x S
 with-time P s f absent e k l = l (λ x S. spells-some (rw e at S))
 with-time P s f malformed S k l = l (S .1)

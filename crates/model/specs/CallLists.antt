@@ -19,8 +19,8 @@ abbrev pub FourFields : List ℕ → (name dialled answered ended rest : List �
 FourFields text name dialled answered ended rest = Derives text (name ∷ dialled ∷ answered ∷ ended ∷ []) rest
 
 -- "31 the line breaks RFC 4180 or has not four fields": no derivation with four fields
-abbrev pub NoLine : List ℕ → Type 0
-NoLine text = (name dialled answered ended rest : List ℕ) → FourFields text name dialled answered ended rest → ⊥
+abbrev pub NoFourFields : List ℕ → Type 0
+NoFourFields text = (name dialled answered ended rest : List ℕ) → FourFields text name dialled answered ended rest → ⊥
 
 -- the number that decimal digits spell, the last digit being the ones; 48 is the byte of the digit 0
 pub data Decimal : List ℕ → ℕ → Type 0 where
@@ -41,7 +41,7 @@ pub data Lasted : (dialled answered ended : List ℕ) → ℕ → Type 0 where
 
 -- "lines are taken in turn": the text begins with lines of good calls that lasted so long, and left is the text after these
 pub data Lines : List ℕ → List ℕ → List ℕ → Type 0 where
-  no-line : {text : List ℕ} → Lines text [] text
+  nothing-taken : {text : List ℕ} → Lines text [] text
   line : {text name dialled answered ended rest seconds left : List ℕ} {c : ℕ} (D : FourFields text name dialled answered ended rest)
       → Lasted dialled answered ended c → Lines (D .next) seconds left → Lines text (c ∷ seconds) left
 
@@ -50,7 +50,7 @@ pub data NumberOf (room : ℕ) (left : List ℕ) : ℕ → Type 0 where
   -- "0 when done"
   done : left ≡ [] → NumberOf room left 0
   -- "31 the line breaks RFC 4180 or has not four fields"
-  no-record : left ≢ [] → NoLine left → NumberOf room left 31
+  not-four-fields : left ≢ [] → NoFourFields left → NumberOf room left 31
   -- "32 a time is malformed, answered comes before dialled, or ended before answered (before dialled if unanswered)"
   bad-times : {name dialled answered ended rest : List ℕ} → FourFields left name dialled answered ended rest
       → ((c : ℕ) → Lasted dialled answered ended c → ⊥) → NumberOf room left 32
@@ -79,7 +79,7 @@ pub record CallLists : Type 0 where
   -- "ended minus answered, or 0 for no answer": the fields of a line are read as a good call exactly where they tell one
   pub calls : (dialled answered ended : List ℕ) (c : ℕ) → (call dialled answered ended ≡ lasted c) ↔ Lasted dialled answered ended c
   -- A line's number is 31 exactly where no derivation with four fields exists, whatever the buffer; of an empty text no line is asked for.
-  pub refused : (room : ℕ) (text : List ℕ) → (lineNumber room (lineAt text) ≡ 31) ↔ NoLine text
+  pub refused : (room : ℕ) (text : List ℕ) → (lineNumber room (lineAt text) ≡ 31) ↔ NoFourFields text
   pub imports : (list out : List ℕ) → Imports list out (imported list out)
   -- "The number (0 when done) and the calls written are returned; the rest of the buffer is left": `Imports` fixes all of it
   pub one-import : (list out : List ℕ) (x y : Imported) → Imports list out x → Imports list out y → x ≡ y

@@ -138,7 +138,7 @@ pub data Time : Type 0 where
   second : ℕ → Time
   malformed : Time
 
--- a digit of a time, 0 to 9, and the number of the digits of s after those of the number v
+-- whether a byte is a digit, 0 to 9, 48 being the byte of 0; whether all bytes are; and the number that digits spell where they follow those of v
 unfoldable pub isDigit : ℕ → Bool
 isDigit b = leb 48 b && leb b 57
 
@@ -167,14 +167,14 @@ lasting dialled absent ended = cond (leb dialled ended) (lasted 0) wrong
 lasting dialled malformed ended = wrong
 
 -- "32 a time is malformed": only the answered field may be empty
-abbrev pub timed : Time → (ℕ → Call) → Call
-timed (second x) f = f x
-timed absent f = wrong
-timed malformed f = wrong
+abbrev pub withTime : Time → (ℕ → Call) → Call
+withTime (second x) f = f x
+withTime absent f = wrong
+withTime malformed f = wrong
 
 -- the call of a line by the values of its fields dialled, answered and ended
 unfoldable pub call : List ℕ → List ℕ → List ℕ → Call
-call dialled answered ended = timed (time dialled) (λ x. timed (time ended) (λ z. lasting x (time answered) z))
+call dialled answered ended = withTime (time dialled) (λ x. withTime (time ended) (λ z. lasting x (time answered) z))
 
 -- "four fields (line name, dialled, answered, ended)": the line's call, where it has four fields, and the text after its line break. "The last line break
 -- may be missing"
@@ -191,10 +191,10 @@ abbrev pub isLine : Parsed Call → Bool
 isLine (found c next) = true
 isLine unread = false
 
-abbrev pub isTimed : Parsed Call → Bool
-isTimed (found (lasted c) next) = true
-isTimed (found wrong next) = false
-isTimed unread = false
+abbrev pub isGood : Parsed Call → Bool
+isGood (found (lasted c) next) = true
+isGood (found wrong next) = false
+isGood unread = false
 
 abbrev pub secondsOf : Parsed Call → ℕ
 secondsOf (found (lasted c) next) = c
@@ -212,7 +212,7 @@ lineNumber room x =
     -- "31 the line breaks RFC 4180 or has not four fields"
     ((isLine x, 31)
     -- "32 a time is malformed, answered comes before dialled, or ended before answered (before dialled if unanswered)"
-    ∷ (isTimed x, 32)
+    ∷ (isGood x, 32)
     -- "33 the buffer is full"
     ∷ (ltb 0 room, 33) ∷ [])
 
