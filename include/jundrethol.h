@@ -137,8 +137,8 @@ uint32_t jundrethol_decode(uint32_t field, uint32_t value, int64_t *number);
  * list     is comma-separated text as RFC 4180 describes, without a header line. A line is one record of the RFC's grammar, ended by CR LF or
  *          by the list's end: an empty list has no lines, and one CR LF at the end begins none. Its four fields are the name of the telephone
  *          line, and when the call was dialled, answered and ended, in seconds of the quarter. Any field may be quoted. Lines that end with LF
- *          alone, and a tab or a byte above 7E (hexadecimal) anywhere, are 31. A time is one to seven
- *          digits once its quotes are taken off. Answered may be empty, which means that nobody picked up.
+ *          alone, and a tab or a byte above 7E (hexadecimal) anywhere, are 31. A time is one to seven digits once its quotes are taken off.
+ *          Answered may be empty, which means that nobody picked up.
  * seconds  gets one number for each call, in order: ended minus answered, or 0 where nobody picked up.
  * calls    gets how many numbers were written to seconds, 0 if none. It is one number, not a list.
  *
