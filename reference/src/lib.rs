@@ -19,5 +19,6 @@ pub mod sheet;
 pub mod sheets;
 pub mod signed;
 pub mod steps;
+pub mod stored_bytes;
 pub mod table;
 pub mod weights;

@@ -1,6 +1,7 @@
 //! A sheet with the lengths of the lent buffers, its form as bytes, and the lines of its answer.
 
 use crate::run::{run, Answer};
+use crate::stored_bytes::{read_each, with_lengths};
 use crate::table::{end_line, RECORD, REVEALED};
 
 pub const LONGEST_RECORD: usize = 12_000;
@@ -48,24 +49,13 @@ impl Case {
     /// Three little-endian words, the lengths of sheet, record and revealed list; then the sheet.
     pub fn to_bytes(&self) -> Vec<u8> {
         let lengths = [self.sheet.len(), self.record, self.revealed];
-        let words = lengths
-            .iter()
-            .flat_map(|&length| (length as u32).to_le_bytes());
-        words.chain(self.sheet.iter().copied()).collect()
+        with_lengths(&lengths, &self.sheet)
     }
 }
 
 /// Reads the cases that the bytes consist of.
 pub fn read_all(bytes: &[u8]) -> Result<Vec<Case>, String> {
-    let mut cases = Vec::new();
-    let mut rest = bytes;
-    while !rest.is_empty() {
-        let (case, after) =
-            read_one(rest).map_err(|message| format!("case {}: {message}", cases.len()))?;
-        cases.push(case);
-        rest = after;
-    }
-    Ok(cases)
+    read_each(bytes, read_one)
 }
 
 fn read_one(bytes: &[u8]) -> Result<(Case, &[u8]), String> {

@@ -1,6 +1,7 @@
 //! A list with the length of the lent buffer, its form as bytes, and the lines of its answer.
 
 use super::import;
+use crate::stored_bytes::{read_each, with_lengths};
 
 pub const LONGEST: usize = 600;
 
@@ -33,25 +34,13 @@ impl Case {
 
     /// Two little-endian words, the lengths of list and buffer; then the list.
     pub fn to_bytes(&self) -> Vec<u8> {
-        let lengths = [self.list.len(), self.lent];
-        let words = lengths
-            .iter()
-            .flat_map(|&length| (length as u32).to_le_bytes());
-        words.chain(self.list.iter().copied()).collect()
+        with_lengths(&[self.list.len(), self.lent], &self.list)
     }
 }
 
 /// Reads the cases that the bytes consist of.
 pub fn read_all(bytes: &[u8]) -> Result<Vec<Case>, String> {
-    let mut cases = Vec::new();
-    let mut rest = bytes;
-    while !rest.is_empty() {
-        let (case, after) =
-            read_one(rest).map_err(|message| format!("case {}: {message}", cases.len()))?;
-        cases.push(case);
-        rest = after;
-    }
-    Ok(cases)
+    read_each(bytes, read_one)
 }
 
 fn read_one(bytes: &[u8]) -> Result<(Case, &[u8]), String> {
