@@ -84,8 +84,8 @@ larges =
     -- field 2, OVER k=15 v=170 of 170, 171: 0, 1
     figure (performed (OVER 1 0 15 170) (of large 170)) (0 ∷ 1 ∷ 42 ∷ 86 ∷ 0 ∷ [])
     ∷ figure (performed (OVER 1 0 15 170) (of large 171)) (0 ∷ 1 ∷ 42 ∷ 86 ∷ 1 ∷ [])
-    -- BLOCKS k=15 m=6 in field 2, of 179, 128, 0: 2, 2, 0
-    ∷ figure (performed (BLOCKS 1 0 15 6) (of large 179)) (0 ∷ 1 ∷ 26 ∷ 54 ∷ 2 ∷ [])
+    -- BLOCKS k=15 m=6 in field 2, of 179, 128, 0: 3, 2, 0
+    ∷ figure (performed (BLOCKS 1 0 15 6) (of large 179)) (0 ∷ 1 ∷ 26 ∷ 54 ∷ 3 ∷ [])
     ∷ figure (performed (BLOCKS 1 0 15 6) (of large 128)) (0 ∷ 1 ∷ 26 ∷ 54 ∷ 2 ∷ [])
     ∷ figure (performed (BLOCKS 1 0 15 6) (of large 0)) (0 ∷ 1 ∷ 26 ∷ 54 ∷ 0 ∷ [])
     -- LTZ k=15 in field 2: 42 triples, 85 openings, and REVEAL's one

@@ -43,4 +43,4 @@ pub record Witness : Type 0 where
   pub has-lines : is-accepted .lines ≡ lines
   pub has-end : is-accepted .end ≡ 64
   pub stops : seen (stopOf sheet 174 1)
-      ≡ (0 ∷ 64 ∷ 1 ∷ 5 ∷ 26 ∷ 58 ∷ 1 ∷ []) ∷ (0 ∷ []) ∷ (12 ∷ 2 ∷ 1 ∷ 10 ∷ 10 ∷ 11 ∷ 1 ∷ 12 ∷ 1 ∷ 0 ∷ 12 ∷ 0 ∷ []) ∷ []
+      ≡ (0 ∷ 64 ∷ 1 ∷ 5 ∷ 26 ∷ 58 ∷ 1 ∷ []) ∷ (0 ∷ []) ∷ (12 ∷ 2 ∷ 1 ∷ 10 ∷ 10 ∷ 11 ∷ 1 ∷ 12 ∷ 1 ∷ 0 ∷ 0 ∷ 0 ∷ []) ∷ []

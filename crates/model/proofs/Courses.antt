@@ -90,9 +90,11 @@ module _ (S : Setting) (M : Modulus (S .p)) (P : Parties (S .n) (S .t)) (Z : Sha
 
     determined-blocks : (k m : ℕ) → Ranges K k m → {a : ℕ} {x : Row} → Shared S a x
         → ((z : Row) → Shared S (charged (S .p) k m a) z → Determined S B Q xs n vs (go z))
-        → Determined S B Q (shifted (S .p) k a ∷ xs) (triples m + n) vs (blocks (S .p) (rowOps S) MOD k m x go)
+        → Determined S B Q (shifted (S .p) k (add (S .p) a (2 ^ m - 1)) ∷ xs) (triples m + n) vs (blocks (S .p) (rowOps S) MOD k m x go)
     unfolding blocks charged
-    determined-blocks k m R X h = determined-floor D k m R X h
+    determined-blocks k m R X h =
+        let l : 2 ^ m - 1 < S .p = omega (arith, D .power-lt m (omega (arith, R .m-most, R .k-most))) in
+        determined-floor D k m R (shared-plus S M P X (shared-constant S M P l)) h
 
   module _ {A : Type 0} {Q : A → Type 0} {MOD : Remainder Row A} (D : DeterminedMod S B K Q triples MOD) {xs : List ℕ} {n : ℕ} {vs : List ℕ} {go : Row → Tree Row A} where
     determined-over : (k v : ℕ) → Ranges K k (k - 1) → v < S .p → {a : ℕ} {x : Row} → Shared S a x
@@ -136,7 +138,7 @@ module _ (S : Setting) (M : Modulus (S .p)) (P : Parties (S .n) (S .t)) (Z : Sha
           record { numbers = shifted (S .p) k (sub (S .p) v (getD vs a 0)) ∷ []; masks = refl; values = refl; determined = λ g G go h. determined-over D k v (omega arith) (omega arith) (shareds-at Z G a) (λ z X. h _ (put d G X)) }
       course (BLOCKS d a k m) ok =
           let R = operands (S .p) K (BLOCKS d a k m) ok in
-          record { numbers = shifted (S .p) k (getD vs a 0) ∷ []; masks = refl; values = refl; determined = λ g G go h. determined-blocks D k m (omega arith) (shareds-at Z G a) (λ z X. h _ (put d G X)) }
+          record { numbers = shifted (S .p) k (add (S .p) (getD vs a 0) (2 ^ m - 1)) ∷ []; masks = refl; values = refl; determined = λ g G go h. determined-blocks D k m (omega arith) (shareds-at Z G a) (λ z X. h _ (put d G X)) }
       course (REVEAL a) ok =
           record { numbers = []; masks = refl; values = refl; determined = λ g G go h. recount (omega arith) (d-reveal (shareds-at Z G a) (h g (G, kept [] g))) }
       course (BITLT d b w v) ok =

@@ -1,11 +1,12 @@
--- A division in ℤ has one floor and one remainder.
+-- A division in ℤ has one floor and one remainder; and how many blocks are begun is one number, a floor.
 -- Assumes nothing.
 use mathlib.Core.Path.{_≡_, refl, sym, ap, _∙_}
-use Prim.Native.Nat.{ℕ, zero, suc, _+_, _-_, _*_, _<_}
+use Prim.Native.Nat.{ℕ, zero, suc, _+_, _-_, _*_, _/_, _<_}
+use native.Mathlib.Nat.{mod-lt, div-add-mod', div-lt-iff-lt-mul}
 use native.Mathlib.Omega.{arith}
 use lib.IntN.{ℤ, pos, negsuc, _+ℤ_, _*ℤ_, negsuc-*ℤ-pos, pos-ne-negsuc}
 use lib.Signed.{mag}
-use Rattle.model.specs.Formulas.{OneDivision}
+use Rattle.model.specs.Formulas.{OneDivision, Begun, OneBegun}
 use Rattle.model.proofs.Coding.{below-zero}
 
 -- of natural numbers
@@ -36,3 +37,14 @@ fixed M (negsuc a) (negsuc b) r s h k e =
 
 pub one-division : OneDivision
 one-division z M q q′ r r′ D E = fixed M q q′ r r′ (D .small) (E .small) (sym (D .is) ∙ E .is)
+
+pub one-begun : OneBegun
+one-begun M a z z′ B C = omega (arith, B .least z′ (C .hold), C .least z (B .hold))
+
+pub begun-is : (M a : ℕ) → 0 < M → Begun M a ((a + (M - 1)) / M)
+begun-is M a h =
+    let x = a + (M - 1) in
+    record {
+      hold = omega (arith, div-add-mod' x M, mod-lt x h);
+      least = λ b l. let q : x / M < suc b = div-lt-iff-lt-mul h .1 (omega arith) in omega arith;
+    }

@@ -5,16 +5,17 @@ use Prim.Native.Nat.{ℕ, suc, _+_, _-_, _*_, _/_, _^_, _≤_, _<_}
 use native.Mathlib.Nat.{mod-eq-of-lt, div-le-self, pow-suc}
 use native.Mathlib.Omega.{arith}
 use lib.Dec.{T}
-use lib.IntN.{ℤ, pos, _-ℤ_, _*ℤ_, +ℤ-comm}
+use lib.IntN.{ℤ, pos, _+ℤ_, _-ℤ_, _*ℤ_, +ℤ-comm}
 use lib.Pow.{pow-pos, pow-mono, pow-add}
 use lib.Signed.{mag, ltZ, shrZ, mag-shr}
+use Rattle.algebra.specs.Ring.{add}
 use Rattle.model.specs.Fields.{powerOf2, inversePowerOf2, Field}
 use Rattle.model.specs.Coding.{inRange, code, readBack}
-use Rattle.model.specs.Plain.{rem, quot, negative, exceeds, charged}
+use Rattle.model.specs.Plain.{rem, quot, negative, exceeds}
 use Rattle.model.specs.Formulas.{Division, one}
 use Rattle.model.proofs.Fields.{power-inverse}
 use Rattle.model.proofs.Coding.{in-magnitude, code-below, code-floor, read-code, code-read}
-use Rattle.model.proofs.Signed.{sign-sub, code-sub, floor-is, remainder-is, sign-is}
+use Rattle.model.proofs.Signed.{sign-sub, code-sub, code-add, floor-is, remainder-is, sign-is}
 
 module _ {p l K : ℕ} (F : Field p l K) where
   pub twice-fits : (k : ℕ) → 1 ≤ k → k ≤ K → 2 ^ (k - 1) + 2 ^ (k - 1) < p
@@ -51,12 +52,18 @@ module _ {p l K : ℕ} (F : Field p l K) where
   pub negative-read : (k x : ℕ) → 2 ≤ k → k ≤ K → x < p → T (inRange k (readBack p x)) → negative p k x ≡ one (ltZ (readBack p x) (pos 0))
   negative-read k x h hk l t = rw (code-read p x l) at (negative-code k (readBack p x) h hk t)
 
-  pub finished-blocks : (k m x : ℕ) → k ≤ K → m < k → x < 2 ^ (k - 1) → charged p k m x ≡ x / 2 ^ m
-  unfolding charged code
-  finished-blocks k m x hk hm r =
+  -- the floor of a sum that is in range: of 0 or more, and of every sum
+  pub floor-of-sum : (k m c x : ℕ) → k ≤ K → m < k → x + c < 2 ^ (k - 1) → quot p k m (add p x c) ≡ (x + c) / 2 ^ m
+  unfolding code add
+  floor-of-sum k m c x hk hm r =
       let f = twice-fits k (omega arith) hk in
-      rw (mod-eq-of-lt {n = x} {m = p} (omega arith), mod-eq-of-lt {n = x / 2 ^ m} {m = p} (omega (arith, div-le-self x (2 ^ m))))
-      at (quot-code k m (pos x) hk hm r)
+      rw (mod-eq-of-lt {n = (x + c) / 2 ^ m} {m = p} (omega (arith, div-le-self (x + c) (2 ^ m)))) at (quot-code k m (pos (x + c)) hk hm r)
+
+  pub division-of-sum : (k m c x : ℕ) → k ≤ K → m < k → x < p
+      → (let y = readBack p x +ℤ pos c in T (inRange k y) → Division y (2 ^ m) (readBack p (quot p k m (add p x c))) (rem p k m (add p x c)))
+  division-of-sum k m c x hk hm l t =
+      let y = readBack p x +ℤ pos c in
+      rw (code-add {p = p} (omega arith) (readBack p x) c, code-read p x l) at (division-code k m y hk hm (in-magnitude k y .0 t))
 
   pub division-read : (k m x : ℕ) → 2 ≤ k → k ≤ K → 1 ≤ m → m < k → x < p → T (inRange k (readBack p x))
       → Division (readBack p x) (2 ^ m) (readBack p (quot p k m x)) (rem p k m x)

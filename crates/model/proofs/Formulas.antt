@@ -7,15 +7,16 @@ use native.Mathlib.Omega.{arith}
 use lib.Pow.{pow-pos}
 use Rattle.algebra.specs.Ring.{add, sub, mul}
 use Rattle.algebra.proofs.Lists.{all-below}
-use Rattle.algebra.proofs.Ring.{ring, mod-ring, given, reduced, sub-lt}
+use Rattle.algebra.proofs.Ring.{ring, mod-ring, given, reduced, add-lt, sub-lt}
 use Rattle.model.specs.Fields.{Field, powerOf2, inversePowerOf2}
 use Rattle.model.specs.Coding.{readBack}
 use Rattle.model.specs.Plain.{rem, quot, negative, exceeds, charged}
-use Rattle.model.specs.Formulas.{Remains, Divides, Signs, Exact, EveryFormula}
+use Rattle.model.specs.Formulas.{Remains, Divides, Signs, Charges, Exact, EveryFormula}
 use Rattle.model.proofs.Fields.{fields, power-inverse}
 use Rattle.model.proofs.Coding.{code-read}
 use Rattle.model.proofs.Comparing.{less-is}
-use Rattle.model.proofs.Exact.{twice-fits, negative-read, exceeds-code, finished-blocks, division-read}
+use Rattle.model.proofs.Dividing.{begun-is}
+use Rattle.model.proofs.Exact.{twice-fits, negative-read, exceeds-code, floor-of-sum, division-of-sum, division-read}
 
 -- q is (a − r) times the inverse i of M: q times M and r are a
 undivided : {p : ℕ} (M i a r : ℕ) → 0 < p → a < p → mul p (M % p) i ≡ 1 → (mul p i (sub p a r) * M + r) % p ≡ a
@@ -50,6 +51,16 @@ module _ {p l K : ℕ} (F : Field p l K) where
         formula = unfold negative quot rem add in negated (2 ^ (k - 1)) (inversePowerOf2 p (k - 1)) a _ positive small (inverse-of (k - 1));
       }
 
+  charges : (k m a : ℕ) → 2 ≤ k → k ≤ K → 1 ≤ m → m < k → a < p → Charges p k m a (charged p k m a)
+  unfolding charged
+  charges k m a l g i j h =
+      let c = 2 ^ m - 1 in
+      record {
+        divides = divides k m (add p a c) l g i j (add-lt a c positive);
+        exact = λ t. record { remainder = _; division = division-of-sum F k m c a g j h t };
+        begun = λ s. rw (floor-of-sum F k m c a g j s) (begun-is (2 ^ m) a (pow-pos m));
+      }
+
   pub field-exact : Exact p K
   field-exact =
       record {
@@ -61,8 +72,7 @@ module _ {p l K : ℕ} (F : Field p l K) where
               sign = unfold exceeds in signs k (sub p v a) l g (sub-lt v a positive);
               exact = λ t. rw (code-read p v i, code-read p a h) at (exceeds-code F k (readBack p v) (readBack p a) l g t);
             };
-        charges = λ k m a l g i j h.
-            record { divides = unfold charged in divides k m a l g i j h; finished = λ s. finished-blocks F k m a g j s };
+        charges = charges;
         compares = λ v bs n h. record { exact = λ t. less-is p v bs (omega arith) (all-below 2 bs .0 t) n h; rule = refl };
       }
 

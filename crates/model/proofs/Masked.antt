@@ -24,8 +24,9 @@ use Rattle.model.proofs.Each.{each-take}
 use Rattle.model.proofs.Shared.{Shared, shared-plus, shared-minus, shared-times, shared-constant, shared-spelled}
 use Rattle.model.proofs.Determined.{Determined, d-multiply, d-mask, recount, Bounds, DeterminedComparison, comparison-determined}
 
--- A MOD masks a + 2^(k−1) and leaves the plain interpreter's remainder, and takes so many triples for its m.
+-- A MOD masks a + 2^(k−1) and leaves the plain interpreter's remainder, and takes so many triples for its m. Its powers of two are below p.
 pub record DeterminedMod (S : Setting) (B K : ℕ) {A : Type 0} (Q : A → Type 0) (triples : ℕ → ℕ) (MOD : Remainder Row A) : Type 0 where
+  pub power-lt : (m : ℕ) → m ≤ K → 2 ^ m < S .p
   pub determined : {xs : List ℕ} {n : ℕ} {vs : List ℕ} (k m : ℕ) → Ranges K k m → {a : ℕ} {x : Row} {go : Row → Tree Row A} → Shared S a x
       → ((z : Row) → Shared S (rem (S .p) k m a) z → Determined S B Q xs n vs (go z))
       → Determined S B Q (add (S .p) a (2 ^ (k - 1)) ∷ xs) (triples m + n) vs (MOD k m x go)
@@ -56,6 +57,7 @@ module _ (S : Setting) {K : ℕ} (F : Field (S .p) (S .l) K) (P : Parties (S .n)
     unfolding Trees.remainder unmask
     remainder-by {count} {triples} D many =
         record {
+          power-lt = power-lt;
           determined = λ {xs} {n} {vs} k m R {a} {x} {go} X h.
               d-mask {n = triples m + n} (shared-plus S M P X (shared-constant S M P (power-lt (k - 1) (omega (arith, R .k-most))))) λ r b hr Bs.
               let C = add (S .p) (add (S .p) a (2 ^ (k - 1))) r in

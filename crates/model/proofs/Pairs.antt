@@ -135,7 +135,7 @@ module _ (p : ℕ) {X Y : Type 0} {E : X → Y → Type 0} {O : Ops X} {O′ : O
 
       pub paired-blocks : PairedMod E R (blocks p O f) (blocks p O′ f′)
       unfolding blocks
-      paired-blocks = record { pair = λ k m ea h. paired-floor .pair k m ea h }
+      paired-blocks = record { pair = λ k m ea h. paired-floor .pair k m (K .plus ea (K .constant _)) h }
 
   module _ {unset : X} {unset′ : Y} (e0 : E unset unset′) where
     -- registers of a list, of which each is in pairs

@@ -8,7 +8,7 @@ use native.Mathlib.Decide.{decLt}
 use native.Mathlib.Omega.{arith}
 use borrow.Author.Tests.{lt-ltb, le-ltb}
 use lib.Dec.{ltb, leb·suc-suc}
-use lib.IntN.{ℤ, pos, negsuc, subℕ, _-ℤ_}
+use lib.IntN.{ℤ, pos, negsuc, subℕ, _+ℤ_, _-ℤ_}
 use lib.Signed.{mag, ltZ, shrZ}
 use Rattle.algebra.specs.Ring.{add, sub, mul}
 use Rattle.algebra.proofs.Ring.{by-quotients, ring, mod-ring, reduced, both-reduced, given, add-up, mul-lt, sub-lt}
@@ -58,6 +58,12 @@ module _ {p : ℕ} (h : 0 < p) where
       rw (code-negative (suc (m + n)), code-negative m) (simp mod-ring (ring h _ _ _ _ (omega arith)))
   code-sub (negsuc m) (negsuc n) =
       code-subℕ (suc n) (suc m) ∙ rw (code-negative m, code-negative n) (simp mod-ring (ring h _ _ _ _ (omega arith)))
+
+  -- the code of a sum
+  pub code-add : (a : ℤ) (c : ℕ) → code p (a +ℤ pos c) ≡ add p (code p a) c
+  unfolding code
+  code-add (pos n) c = simp mod-ring (ring h _ _ _ _ (omega arith))
+  code-add (negsuc n) c = code-subℕ c (suc n) ∙ rw (code-negative n) (simp mod-ring (ring h _ _ _ _ (omega arith)))
 
   -- the floor of a / M times M
   floor-times : (M : ℕ) (a : ℤ) → 0 < M → sub p (code p a) (code M a) ≡ mul p M (code p (shrZ a M))

@@ -4,7 +4,7 @@
 use mathlib.Core.Path.{_≡_, refl, sym, ap, _∙_}
 use mathlib.Core.Bool.{cond}
 use mathlib.Core.List.{List, [], _∷_, _++_, append-assoc, append-nil}
-use Prim.Native.Nat.{ℕ, zero, suc, _+_, _-_, _/_}
+use Prim.Native.Nat.{ℕ, zero, suc, _+_, _-_, _/_, _^_}
 use lib.ListN.{set}
 use Rattle.model.specs.Trees.{Tree, done, multiply, odd}
 use Rattle.model.specs.Trees as Trees
@@ -76,12 +76,12 @@ module _ (S : Setting) where
   unfolding Trees.sign
   sign-does k a go d = rw (sign-is k a d) (floor-does k (k - 1) a _ d)
 
-  -- OVER and BLOCKS are the sign and the floor of their operands
+  -- OVER and BLOCKS are the sign and the floor of another row
   pub over-is : (k v : ℕ) (a : Row) (d : Deal) → over S k v a d ≡ sign S k (minus S (constant S v) a) d
   unfolding Trees.over over sign
   over-is k v a d = refl
 
-  pub blocks-is : (k m : ℕ) (a : Row) (d : Deal) → blocks S k m a d ≡ floor S k m a d
+  pub blocks-is : (k m : ℕ) (a : Row) (d : Deal) → blocks S k m a d ≡ floor S k m (plus S a (constant S (2 ^ m - 1))) d
   unfolding Trees.blocks blocks floor
   blocks-is k m a d = refl
 
@@ -91,7 +91,7 @@ module _ (S : Setting) where
 
   pub blocks-does : {A : Type 0} (k m : ℕ) (a : Row) → WorksAs S {A = A} (Trees.blocks (S .p) (rowOps S) (rowRemainder S) k m a) (blocks S k m a)
   unfolding Trees.blocks blocks floor
-  blocks-does k m a go d = floor-does k m a go d
+  blocks-does k m a go d = floor-does k m _ go d
 
   shows-none : (x : Step) {w : Worked Row} → w ≡ after (x .opened) [] (byRows S (done (x .left)) (x .deal)) → w .shown ≡ []
   unfolding byRows

@@ -102,7 +102,7 @@ module _ (p l : ℕ) {X : Type 0} (O : Ops X) {A : Type 0} where
 
     pub takes-blocks : (k m : ℕ) (a : X) → 1 ≤ m → m ≤ l → Takes l (suc i) (triples m + n) (Trees.blocks p O MOD k m a go)
     unfolding Trees.blocks
-    takes-blocks k m a low high = takes-floor M h k m a low high
+    takes-blocks k m a low high = takes-floor M h k m _ low high
 
 -- the next m masks have l bits each
 abbrev pub Sized : ℕ → ℕ → List (List Row) → Type 0

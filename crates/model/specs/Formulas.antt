@@ -9,7 +9,7 @@ use lib.Dec.{T, ltb}
 use lib.IntN.{ℤ, pos, _+ℤ_, _-ℤ_, _*ℤ_}
 use lib.ListN.{length}
 use lib.Signed.{ltZ}
-use Rattle.algebra.specs.Ring.{sub}
+use Rattle.algebra.specs.Ring.{add, sub}
 use Rattle.algebra.specs.Lists.{allBelow}
 use Rattle.model.specs.Fields.{modulus, largestK, InUse}
 use Rattle.model.specs.Coding.{inRange, readBack}
@@ -62,10 +62,22 @@ pub record Exceeds (p k v a z : ℕ) : Type 0 where
   pub sign : Signs p k (sub p v a) z
   pub exact : T (inRange k (readBack p v -ℤ readBack p a)) → z ≡ one (ltZ (readBack p v) (readBack p a))
 
--- BLOCKS leaves z of a: "finished blocks of 2^m seconds, today equal to TRUNC"; of a number from 0 to 2^(k−1) − 1, as many as are whole in it
+-- "each begun block": z blocks of M seconds hold a seconds, and fewer do not
+pub record Begun (M a z : ℕ) : Type 0 where
+  pub hold : a ≤ z * M
+  pub least : (b : ℕ) → a ≤ b * M → z ≤ b
+
+-- This fixes z.
+abbrev pub OneBegun : Type 0
+OneBegun = (M a z z′ : ℕ) → Begun M a z → Begun M a z′ → z ≡ z′
+
+-- BLOCKS leaves z of a: "TRUNC of a + 2^m − 1 with the same k and m". "Blocks are exact while a read back, plus 2^m − 1 and not reduced by p, lies
+-- in the k-bit range": z is then the floor of that sum, and of a call of 0 seconds or more the number of begun blocks. TRUNC's own claim is of the
+-- sum modulo p, which can lie in the range where the sum does not.
 pub record Charges (p k m a z : ℕ) : Type 0 where
-  pub divides : Divides p k m a z
-  pub finished : a < 2 ^ (k - 1) → z ≡ a / 2 ^ m
+  pub divides : Divides p k m (add p a (2 ^ m - 1)) z
+  pub exact : (let x = readBack p a +ℤ pos (2 ^ m - 1) in T (inRange k x) → FloorOf x (2 ^ m) (readBack p z))
+  pub begun : a + (2 ^ m - 1) < 2 ^ (k - 1) → Begun (2 ^ m) a z
 
 -- BITLT leaves z of the secrets bs: "1 if v < the number in bits b.." where they are bits. "If registers are not bits, this rule still says what
 -- comes out": the rule is `less`.

@@ -41,9 +41,9 @@ negative p k a = sub p 0 (quot p k (k - 1) a)
 unfoldable pub exceeds : ℕ → ℕ → ℕ → ℕ → ℕ
 exceeds p k v a = negative p k (sub p v a)
 
--- "BLOCKS is the tariff's own rule: finished blocks of 2^m seconds, today equal to TRUNC."
+-- "BLOCKS becomes TRUNC of a + 2^m − 1 with the same k and m."
 unfoldable pub charged : ℕ → ℕ → ℕ → ℕ → ℕ
-charged p k m a = quot p k m a
+charged p k m a = quot p k m (add p a (2 ^ m - 1))
 
 -- the values of registers b to b + w - 1
 unfoldable pub valuesFrom : List ℕ → ℕ → ℕ → List ℕ

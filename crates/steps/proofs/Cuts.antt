@@ -2,8 +2,8 @@
 -- Assumes nothing.
 use mathlib.Core.Path.{_≡_, refl, _∙_}
 use mathlib.Core.List.{List}
-use Prim.Native.Nat.{ℕ, _-_}
-use Rattle.model.specs.Steps.{Setting, Row, Deal, Step, minus, constant, remainder}
+use Prim.Native.Nat.{ℕ, _-_, _^_}
+use Rattle.model.specs.Steps.{Setting, Row, Deal, Step, plus, minus, constant, remainder}
 use Rattle.model.proofs.StepLaws.{floor-is, sign-is, over-is, blocks-is}
 use Rattle.sharing.specs.Settings.{settingOf}
 use Rattle.sharing.specs.declared.setting.Setting as Code
@@ -27,7 +27,7 @@ module _ (S : Setting) where
   cut-parts (Trunc k m) a d = floor-is S k m a d
   cut-parts (Ltz k) a d = sign-parts k a d
   cut-parts (Over k v) a d = over-is S k v a d ∙ sign-parts k (minus S (constant S v) a) d
-  cut-parts (Blocks k m) a d = blocks-is S k m a d ∙ floor-is S k m a d
+  cut-parts (Blocks k m) a d = blocks-is S k m a d ∙ floor-is S k m (plus S a (constant S (2 ^ m - 1))) d
 
 pub cut-leaves : {s : List ℕ} {S : Code.Setting} {at : Places} {log log′ : List ℕ} {r : List Row} (c : Cut) (a : Row) {k m : ℕ} {x y row : Row}
     → k ≡ widthOf c → m ≡ lowOf c → x ≡ beforeRow (settingOf S) c a → MaskedLeaves s S at r m (remainder (settingOf S) k m x) y log log′

@@ -1,10 +1,10 @@
 -- MOD, TRUNC, LTZ, OVER and BLOCKS by their core: the remainder of a row made of the operand, and a row made of the remainder.
 -- Assumes nothing.
 use mathlib.Core.List.{List}
-use Prim.Native.Nat.{ℕ, _-_}
+use Prim.Native.Nat.{ℕ, _-_, _^_}
 use Rattle.model.specs.Deal.{Row, Deal}
 use Rattle.model.specs.Deal as Paper
-use Rattle.model.specs.Steps.{Step, minus, constant, quotient, remainder, floor, sign, over, blocks}
+use Rattle.model.specs.Steps.{Step, plus, minus, constant, quotient, remainder, floor, sign, over, blocks}
 use Rattle.sharing.specs.Settings.{settingOf}
 use Rattle.sharing.specs.declared.setting.Setting.{Setting}
 use Rattle.steps.specs.declared.cut.Cut.{Cut}
@@ -37,13 +37,13 @@ module _ (S : Paper.Setting) where
   cutStep (Over k v) a d = over S k v a d
   cutStep (Blocks k m) a d = blocks S k m a d
 
-  -- the row whose remainder is taken. OVER: "LTZ of (v − a)"
+  -- the row whose remainder is taken. OVER: "LTZ of (v − a)"; BLOCKS: "TRUNC of a + 2^m − 1 with the same k and m"
   abbrev pub beforeRow : Cut → Row → Row
   beforeRow (Mod k m) a = a
   beforeRow (Trunc k m) a = a
   beforeRow (Ltz k) a = a
   beforeRow (Over k v) a = minus S (constant S v) a
-  beforeRow (Blocks k m) a = a
+  beforeRow (Blocks k m) a = plus S a (constant S (2 ^ m - 1))
 
   -- the row left, of that row and its remainder. TRUNC: "(a − MOD) times the inverse of 2^m"; LTZ: "minus TRUNC"
   abbrev pub afterRow : Cut → Row → Row → Row

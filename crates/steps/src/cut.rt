@@ -1,6 +1,6 @@
 // MOD, TRUNC, LTZ, OVER and BLOCKS: the remainder of a row made of the operand, and a row made of the remainder.
 ghost use mathlib.Core.Path.{_≡_};
-ghost use Prim.Native.Nat.{_≤_};
+ghost use Prim.Native.Nat.{_-_, _^_, _≤_, _<_};
 ghost use Rattle.model.specs.Steps as Steps;
 ghost use Rattle.sharing.specs.Settings.{settingOf, Fitting};
 ghost use Rattle.steps.specs.Cuts.{CutRoom, CutLeaves, widthOf, lowOf, beforeRow, afterRow};
@@ -46,9 +46,18 @@ pub fn low(c: Cut) -> u32
     }
 }
 
-// The row whose remainder is taken. OVER: "LTZ of (v − a)".
+// a + 2^m − 1.
+pub fn begun_row(setting: Setting, m: u32, a: Row) -> Row
+    requires { ⌜ Fitting setting × (m < 30) × (2 ^ m < setting .p) ⌝ }
+    ensures { λ r. ⌜ r .shares ≡ Steps.plus (settingOf setting) (a .shares) (Steps.constant (settingOf setting) (2 ^ m - 1)) ⌝ }
+{
+    let power = arithmetic::power_of_two(setting.p, m);
+    rows::add_public(setting, a, power - 1)
+}
+
+// The row whose remainder is taken. OVER: "LTZ of (v − a)"; BLOCKS: "TRUNC of a + 2^m − 1 with the same k and m".
 pub fn before(setting: Setting, c: Cut, a: Row) -> Row
-    requires { ⌜ Fitting setting ⌝ }
+    requires { ⌜ Fitting setting × (lowOf c < 30) × (2 ^ lowOf c < setting .p) ⌝ }
     ensures { λ r. ⌜ r .shares ≡ beforeRow (settingOf setting) c (a .shares) ⌝ }
 {
     match c {
@@ -56,7 +65,7 @@ pub fn before(setting: Setting, c: Cut, a: Row) -> Row
         Cut::Trunc { .. } => a,
         Cut::Ltz { .. } => a,
         Cut::Over { v, .. } => rows::sub_rows(setting, rows::constant_row(setting, v), a),
-        Cut::Blocks { .. } => a,
+        Cut::Blocks { m, .. } => begun_row(setting, m, a),
     }
 }
 

@@ -1,9 +1,16 @@
 -- `cut::cut_row` meets its contract: a remainder between two maps.
 -- Assumes nothing.
 use Rattle.steps.proofs.Cuts.{cut-leaves}
+use Rattle.steps.proofs.Powers.{power-below}
 use borrow.Author.Needs.{needs}
+use native.Mathlib.Omega.{arith}
 use Rattle.steps.proofs.cut.cut_row.Statement.{statement}
 use Rattle.steps.proofs.cut.cut_row.Tie as tie
+
+before-requires : tie.Need-before-requires
+before-requires c κs =
+    let P = c .before .before .before .before .pre in
+    (P .room .fitting, omega (arith, P .less, P .most), power-below _ _ (omega (arith, P .less)) (P .power))
 
 remainder-requires : tie.Need-remainder-requires
 remainder-requires c κs = rw (c .before .before .before .width .ensures, c .before .before .low .ensures) (c .before .before .before .before .before .before .pre)
@@ -18,4 +25,4 @@ returns c =
 pub cut-row-spec : {M : Type 1} → statement M
 cut-row-spec =
     tie.close
-    (tie.spec (λ c κs. search needs) (λ c κs. search needs) (λ c κs. search needs) remainder-requires (λ c κs. search needs) (λ c. search needs) returns)
+    (tie.spec (λ c κs. search needs) (λ c κs. search needs) before-requires remainder-requires (λ c κs. search needs) (λ c. search needs) returns)
