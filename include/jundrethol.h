@@ -32,8 +32,8 @@ extern "C" {
 /* The version of this header and of the archive that is built beside it. While the first number stays, refusals and places in counts keep their
  * numbers, functions their parameters, and a function call that answers 0, 21 to 26 or 31 to 33 leaves the same values. A higher second number may add functions,
  * refusals, and counts after the last, and may run what was refused with 1 to 20. */
-#define JUNDRETHOL_VERSION_MAJOR 1
-#define JUNDRETHOL_VERSION_MINOR 1
+#define JUNDRETHOL_VERSION_MAJOR 2
+#define JUNDRETHOL_VERSION_MINOR 0
 
 /* What every function answers: 0, or the first of the others that applies. */
 #define JUNDRETHOL_DONE 0

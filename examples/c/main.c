@@ -6,8 +6,8 @@
 
 #include "jundrethol.h"
 
-#if JUNDRETHOL_VERSION_MAJOR != 1
-#error "written for version 1 of the library"
+#if JUNDRETHOL_VERSION_MAJOR != 2
+#error "written for version 2 of the library"
 #endif
 
 #define COUNT(list) (sizeof(list) / sizeof((list)[0]))
