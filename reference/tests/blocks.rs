@@ -1,4 +1,4 @@
-//! The stored sheets run BLOCKS at both ends of what it charges exactly.
+//! The stored sheets and the drawn ones run BLOCKS at both ends of what it charges exactly.
 
 mod plain;
 mod walk;
@@ -6,7 +6,7 @@ mod walk;
 use plain::{is_in_range, read_back, Plain};
 use reference::field::{Field, FIELDS};
 use reference::script::command::Command;
-use reference::sheets::stored;
+use reference::sheets::{sheet_for, stored};
 use walk::found;
 
 /// BLOCKS of a signed number.
@@ -131,4 +131,19 @@ fn stored_sheets_charge_numbers_whose_sum_wraps_into_the_range() {
         a: 1073741823,
     };
     assert_eq!(highest.sum() - highest.p, -(1 << 29) - 1);
+}
+
+#[test]
+fn drawn_sheets_charge_numbers_at_both_ends() {
+    let drawn = (0..20_000).flat_map(|index| found(&sheet_for(11, index), charge));
+    let charges: Vec<Charge> = drawn.collect();
+    for (number, field) in FIELDS.iter().enumerate() {
+        let in_field = charges.iter().filter(|it| it.p == field.modulus.into());
+        for (name, is_of) in ENDS {
+            let count = in_field.clone().filter(|it| is_of(it)).count();
+            assert!(count >= 10, "field {number}, {name}: {count}");
+        }
+        let wrapping = in_field.filter(|it| it.wraps_into_range()).count();
+        assert_eq!(wrapping > 0, number < 3, "field {number}: {wrapping}");
+    }
 }
