@@ -35,6 +35,13 @@ pub fn sheet_for(seed: u64, index: u64) -> Case {
     }
 }
 
+/// The lowest and the highest number whose blocks are exact: with 2^m - 1 added it is in the k-bit
+/// range.
+fn exact_blocks(k: u8, m: u8) -> (i64, i64) {
+    let (half, block) = (1 << (k - 1), 1 << m);
+    (-half - (block - 1), half - block)
+}
+
 /// Mostly room for the whole script, else for the commands up to one of them, or one less.
 fn record_length(generator: &mut Generator, good: &Good) -> usize {
     let n = usize::from(good.draft.parties);
@@ -98,6 +105,12 @@ fn damaged(generator: &mut Generator, mut sheet: Vec<u8>) -> Vec<u8> {
 #[cfg(test)]
 mod tests {
     use super::*;
+
+    /// Blocks of 64 seconds in field 2.
+    #[test]
+    fn calls_of_up_to_16320_seconds_are_charged_exactly() {
+        assert_eq!(exact_blocks(15, 6), (-16_447, 16_320));
+    }
 
     #[test]
     fn the_same_index_gives_the_same_sheet() {

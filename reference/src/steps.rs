@@ -114,9 +114,10 @@ impl<'a> Work<'a> {
         self.sign(&difference, k)
     }
 
-    /// BLOCKS: the finished blocks of 2^m seconds, which is the floor
+    /// BLOCKS: the begun blocks of 2^m seconds, which is the floor of a + 2^m - 1
     pub fn blocks(&mut self, a: &Row, k: u32, m: u32) -> Option<Row> {
-        self.floor(a, k, m)
+        let sum = self.plus(a, &self.constant((1 << m) - 1, a.len()));
+        self.floor(&sum, k, m)
     }
 
     /// The sum of bit i times 2^i.
@@ -226,9 +227,34 @@ mod tests {
         let over = |a| worked(field, 5, |work| work.over(&sharing(field, a), 15, 170)).0;
         assert_eq!((over(170), over(171)), (0, 1));
         let blocks = |a| worked(field, 5, |work| work.blocks(&sharing(field, a), 15, 6)).0;
-        assert_eq!((blocks(179), blocks(128), blocks(0)), (2, 2, 0));
+        assert_eq!((blocks(179), blocks(128), blocks(0)), (3, 2, 0));
         let (_, triples, openings) = worked(field, 5, |work| work.sign(&sharing(field, 1), 15));
         assert_eq!((triples, openings), (42, 85));
+    }
+
+    /// The least number of blocks that hold a, where a + 2^m - 1 is in the range.
+    #[test]
+    fn blocks_are_the_begun_ones_for_every_mask() {
+        let field = &FIELDS[0];
+        for (k, m) in [(2, 1), (3, 1), (3, 2)] {
+            for a in 0..=(1u32 << (k - 1)) - (1 << m) {
+                let begun = (0..).find(|blocks| blocks << m >= a).unwrap();
+                for r in 0..13 {
+                    let row = sharing(field, a);
+                    let answer = worked(field, r, |work| work.blocks(&row, k, m));
+                    let triples = 4 + 2 * m as usize - 2;
+                    assert_eq!(answer, (u64::from(begun), triples, 1 + 2 * triples));
+                }
+            }
+        }
+    }
+
+    /// 32760 + 16383 is out of the range; less p it is -16378, whose floor is -1.
+    #[test]
+    fn a_sum_that_wraps_into_the_range_has_the_floor_of_what_it_wraps_to() {
+        let field = &FIELDS[2];
+        let blocks = |a| worked(field, 5, |work| work.blocks(&sharing(field, a), 15, 14)).0;
+        assert_eq!(blocks(32_760), 65_520);
     }
 
     #[test]

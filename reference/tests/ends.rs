@@ -1,14 +1,13 @@
 //! The stored sheets run every command that takes a mask at the ends of k, m and its range.
 
 mod plain;
+mod walk;
 
-use plain::{finished, Plain};
+use plain::Plain;
 use reference::field::{Field, FIELDS};
-use reference::run_case::Case;
-use reference::script;
 use reference::script::command::Command;
-use reference::sheet::Sheet;
 use reference::sheets::stored;
+use walk::found;
 
 /// The modulus, the command's name, k, m, and the number worked on, modulo p.
 type Run = (u32, &'static str, u8, u8, u64);
@@ -24,25 +23,12 @@ fn masked(field: &Field, plain: &Plain, command: &Command) -> Option<Run> {
             let difference = field.subtract(v.into(), plain.at(a));
             Some((p, "OVER", k, k - 1, difference))
         }
-        Command::Blocks { a, k, m, .. } => Some((p, "BLOCKS", k, m, plain.at(a))),
+        Command::Blocks { a, k, m, .. } => {
+            let sum = field.add(plain.at(a), (1 << m) - 1);
+            Some((p, "BLOCKS", k, m, sum))
+        }
         _ => None,
     }
-}
-
-/// The commands with a mask that finish when the sheet is run.
-fn runs(case: &Case) -> Vec<Run> {
-    let Ok(sheet) = Sheet::read(&case.sheet) else {
-        return Vec::new();
-    };
-    let lines = script::read(sheet.script, sheet.field).unwrap_or_default();
-    let outcome = case.outcome();
-    let mut plain = Plain::new(&sheet);
-    let mut runs = Vec::new();
-    for command in finished(&lines, &outcome) {
-        runs.extend(masked(sheet.field, &plain, command));
-        plain.perform(command);
-    }
-    runs
 }
 
 /// The commands at the smallest and the largest k, and there at the smallest and the largest m.
@@ -90,7 +76,8 @@ fn missing(number: usize, runs: &[Run]) -> Vec<String> {
 }
 
 fn stored_runs() -> Vec<Run> {
-    stored::all().iter().flat_map(runs).collect()
+    let cases = stored::all();
+    cases.iter().flat_map(|case| found(case, masked)).collect()
 }
 
 #[test]

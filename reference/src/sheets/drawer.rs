@@ -1,5 +1,6 @@
 //! Random scripts with operands in range, mostly of registers that are set.
 
+use super::exact_blocks;
 use crate::cases::generator::Generator;
 use crate::field::Field;
 use crate::script::command::{Command, Cost};
@@ -117,11 +118,24 @@ impl<'a> Drawer<'a> {
             9 => Command::Trunc { d, a, k, m },
             10 => Command::Ltz { d, a, k },
             11 => Command::Over { d, a, k, v },
-            12 => Command::Blocks { d, a, k, m },
+            12 => return self.blocks(d, a, k, m),
             13 => self.comparison(d, b),
             _ => Command::Reveal { a },
         };
         self.push(command);
+    }
+
+    /// Half of them of a number that is loaded for it: an end of what is exact, its neighbour outside,
+    /// or the field's highest.
+    fn blocks(&mut self, d: u8, a: u8, k: u8, m: u8) {
+        if self.generator.below(2) == 0 {
+            let p = i64::from(self.field.modulus);
+            let (lowest, highest) = exact_blocks(k, m);
+            let ends = [lowest - 1, lowest, highest, highest + 1, (p - 1) / 2];
+            let value = self.generator.pick(&ends).rem_euclid(p);
+            self.load_value(a, value as u32);
+        }
+        self.push(Command::Blocks { d, a, k, m });
     }
 
     /// Mostly over registers that are all set.

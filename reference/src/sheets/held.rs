@@ -190,7 +190,12 @@ mod tests {
             ("LTZ of 4, out of range: 12", 12),
             ("OVER v=2 of 3: 1", 1),
             ("OVER k=2 v=2 of 2: 0", 0),
-            ("BLOCKS m=1, 2: 1", 1),
+            ("BLOCKS m=1, 2: 1, and no second one is begun", 1),
+            ("BLOCKS m=1, 1: 1, which is begun", 1),
+            (
+                "BLOCKS m=2, 6: 12; 6 + 3 is out of range, though 9 - 13 is in it",
+                12,
+            ),
             ("MOD m=2, -1: 3", 3),
             ("field 1, MOD k=7 m=2, -41: 3", 3),
         ] {

@@ -1,5 +1,6 @@
 //! The stored cases, ordered by subject.
 
+mod blocks;
 mod commands;
 mod drawn;
 mod ends;
@@ -28,6 +29,7 @@ pub fn all() -> Vec<Case> {
     cases.extend(spoiled::all(&mut generator));
     cases.extend(scripts::all(&mut generator));
     cases.extend(stops::all(&mut generator));
+    cases.extend(blocks::all(&mut generator));
     cases.extend(held::cases());
     cases.extend(drawn::all());
     cases.push(largest());

@@ -98,13 +98,14 @@ impl Maker<'_> {
         .collect()
     }
 
+    /// BLOCKS works on a + 2^m - 1, which is to be the highest number.
     fn floors(&mut self, (k, m): (u32, u32)) -> Vec<StepCase> {
         let (lowest, highest) = self.ends(k);
         let last = self.dealer.field.modulus - 1;
         [
             (Step::Trunc, lowest),
             (Step::Trunc, last),
-            (Step::Blocks, highest),
+            (Step::Blocks, highest + 1 - (1 << m)),
         ]
         .into_iter()
         .map(|(step, a)| self.with_any_mask(step, (k, m, 0), a))
@@ -218,12 +219,24 @@ mod tests {
         }
     }
 
-    /// The number whose sign is taken.
+    /// There the number is the largest whose blocks are exact.
+    #[test]
+    fn blocks_are_taken_where_the_sum_is_the_highest_number() {
+        let cases = all();
+        let blocks = cases.iter().filter(|case| case.step == Step::Blocks);
+        for case in blocks.clone() {
+            assert_eq!(worked_on(case), (1 << (case.k - 1)) - 1, "{case:?}");
+        }
+        assert_eq!(blocks.count(), 4 * (3 + 1));
+    }
+
+    /// The number whose floor or sign is taken.
     fn worked_on(case: &StepCase) -> u64 {
         let weights = Weights::new(case.field, case.parties as usize, case.threshold as usize);
         let a = weights.secret(&case.operands[0]);
         match case.step {
             Step::Over => case.field.subtract(case.v.into(), a),
+            Step::Blocks => case.field.add(a, (1 << case.m) - 1),
             _ => a,
         }
     }

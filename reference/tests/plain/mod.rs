@@ -46,11 +46,10 @@ impl<'a> Plain<'a> {
             Command::Scale { a, v, .. } => field.multiply(at(a), v.into()),
             Command::Mul { a, b, .. } => field.multiply(at(a), at(b)),
             Command::Mod { a, k, m, .. } => remainder(field, at(a), k, m),
-            Command::Trunc { a, k, m, .. } | Command::Blocks { a, k, m, .. } => {
-                floor(field, at(a), k, m)
-            }
+            Command::Trunc { a, k, m, .. } => floor(field, at(a), k, m),
             Command::Ltz { a, k, .. } => sign(field, at(a), k),
             Command::Over { a, k, v, .. } => sign(field, field.subtract(v.into(), at(a)), k),
+            Command::Blocks { a, k, m, .. } => blocks(field, at(a), k, m),
             Command::Bitlt { b, w, v, .. } => {
                 let bits: Vec<u64> = (b..b + w).map(at).collect();
                 comparison(field, v, &bits)
@@ -66,18 +65,49 @@ fn remainder(field: &Field, a: u64, k: u8, m: u8) -> u64 {
 
 /// The exact floor where a is in the k-bit range, else what the formula says.
 fn floor(field: &Field, a: u64, k: u8, m: u8) -> u64 {
-    let p = i64::from(field.modulus);
-    let read = if 2 * (a as i64) < p {
-        a as i64
-    } else {
-        a as i64 - p
-    };
-    let half = 1i64 << (k - 1);
-    if (-half..half).contains(&read) {
-        return read.div_euclid(1 << m).rem_euclid(p) as u64;
+    let read = read_back(field, a);
+    if is_in_range(read, k) {
+        return coded(field, read.div_euclid(1 << m));
     }
-    let difference = field.subtract(a, remainder(field, a, k, m) % p as u64);
-    field.multiply(difference, field.inverse(1 << m))
+    floor_formula(field, a, k, m)
+}
+
+fn floor_formula(field: &Field, a: u64, k: u8, m: u8) -> u64 {
+    let remainder = remainder(field, a, k, m) % u64::from(field.modulus);
+    field.multiply(field.subtract(a, remainder), field.inverse(1 << m))
+}
+
+/// Where a + 2^m - 1, not reduced by p, is in the k-bit range, its exact floor: for a of 0 or more the
+/// begun blocks. Else what the formula says of the reduced sum, even if that is in the range.
+fn blocks(field: &Field, a: u64, k: u8, m: u8) -> u64 {
+    let (read, rest) = (read_back(field, a), (1 << m) - 1);
+    let sum = read + rest;
+    if !is_in_range(sum, k) {
+        return floor_formula(field, field.add(a, rest as u64), k, m);
+    }
+    let blocks = sum.div_euclid(1 << m);
+    if let Ok(seconds) = u64::try_from(read) {
+        assert_eq!(seconds.div_ceil(1 << m) as i64, blocks);
+    }
+    coded(field, blocks)
+}
+
+pub fn read_back(field: &Field, value: u64) -> i64 {
+    let (value, p) = (value as i64, i64::from(field.modulus));
+    if 2 * value < p {
+        value
+    } else {
+        value - p
+    }
+}
+
+fn coded(field: &Field, number: i64) -> u64 {
+    number.rem_euclid(field.modulus.into()) as u64
+}
+
+pub fn is_in_range(number: i64, k: u8) -> bool {
+    let half = 1 << (k - 1);
+    (-half..half).contains(&number)
 }
 
 fn sign(field: &Field, a: u64, k: u8) -> u64 {

@@ -19,7 +19,8 @@ pub fn plain() -> Vec<Held> {
 
 /// Those that take a mask.
 pub fn masked() -> Vec<Held> {
-    (100..).zip(with_masks()).map(held).collect()
+    let cases = with_masks().into_iter().chain(more_blocks());
+    (100..).zip(cases).map(held).collect()
 }
 
 /// A deal drawn for the commands, with buffers that take all they write.
@@ -217,17 +218,15 @@ fn comparisons() -> Vec<Small> {
     all
 }
 
+/// A command from register 0 to 1, its result revealed.
+fn one(says: &'static str, command: Command, secret: u32, r: u32) -> Small {
+    let commands = after_loads(1, &[command, Command::Reveal { a: 1 }]);
+    small(says, &commands, &[secret], &[r])
+}
+
 fn with_masks() -> Vec<Small> {
     use Command::*;
     let (d, a, k) = (1, 0, 3);
-    let one = |says, command, secret: u32, r: u32| {
-        small(
-            says,
-            &after_loads(1, &[command, Reveal { a: 1 }]),
-            &[secret],
-            &[r],
-        )
-    };
     vec![
         one(
             "MOD m=1, -3, r = 12: C 0, f 1",
@@ -255,7 +254,12 @@ fn with_masks() -> Vec<Small> {
         one("LTZ of 4, out of range: 12", Ltz { d, a, k }, 4, 5),
         one("OVER v=2 of 3: 1", Over { d, a, k, v: 2 }, 3, 5),
         one("OVER k=2 v=2 of 2: 0", Over { d, a, k: 2, v: 2 }, 2, 3),
-        one("BLOCKS m=1, 2: 1", Blocks { d, a, k, m: 1 }, 2, 5),
+        one(
+            "BLOCKS m=1, 2: 1, and no second one is begun",
+            Blocks { d, a, k, m: 1 },
+            2,
+            5,
+        ),
         small(
             "a mask and its triples are not used again",
             &after_loads(
@@ -277,6 +281,21 @@ fn with_masks() -> Vec<Small> {
             ),
             &[11],
             &[6, 9],
+        ),
+    ]
+}
+
+/// A block that is begun, and a sum that only its reduction by p brings into the range.
+fn more_blocks() -> Vec<Small> {
+    let (d, a, k) = (1, 0, 3);
+    let blocks = |m| Command::Blocks { d, a, k, m };
+    vec![
+        one("BLOCKS m=1, 1: 1, which is begun", blocks(1), 1, 5),
+        one(
+            "BLOCKS m=2, 6: 12; 6 + 3 is out of range, though 9 - 13 is in it",
+            blocks(2),
+            6,
+            5,
         ),
     ]
 }

@@ -17,18 +17,21 @@ pub fn all(generator: &mut Generator) -> Vec<Case> {
 }
 
 /// A command that takes a mask, by its byte, with its k and m.
-type Masked = (u8, u8, u8);
+pub type Masked = (u8, u8, u8);
 
 /// A run of such a command: the number that it works on and its mask, both modulo p.
-struct Run {
-    masked: Masked,
-    value: u32,
-    r: u32,
+pub struct Run {
+    pub masked: Masked,
+    pub value: u32,
+    pub r: u32,
+}
+
+fn masked(generator: &mut Generator, number: u32) -> Vec<Case> {
+    sheets_of(generator, number, &runs(number))
 }
 
 /// Five commands to a sheet, since five take at most 435 of its 512 triples.
-fn masked(generator: &mut Generator, number: u32) -> Vec<Case> {
-    let runs = runs(number);
+pub fn sheets_of(generator: &mut Generator, number: u32, runs: &[Run]) -> Vec<Case> {
     runs.chunks(5)
         .map(|runs| sheet_of(generator, number, runs))
         .collect()
@@ -44,7 +47,7 @@ fn sheet_of(generator: &mut Generator, number: u32, runs: &[Run]) -> Case {
             Command::Reveal { a: register },
         ]);
     }
-    let secrets: Vec<u32> = runs.iter().map(|run| run.value).collect();
+    let secrets: Vec<u32> = runs.iter().map(|run| secret(run, p)).collect();
     let masks: Vec<u32> = runs.iter().map(|run| run.r).collect();
     case(generator, number, &commands, &secrets, &masks)
 }
@@ -65,8 +68,17 @@ fn command(run: &Run, register: u8, p: u32) -> Command {
     }
 }
 
+/// The number that is shared for the run: BLOCKS works on a + 2^m - 1.
+fn secret(run: &Run, p: u32) -> u32 {
+    let (byte, _, m) = run.masked;
+    match byte {
+        0x0B => (run.value + p - ((1 << m) - 1)) % p,
+        _ => run.value,
+    }
+}
+
 /// The mask changes with every value and with every second command, so that each value has both.
-fn runs(number: u32) -> Vec<Run> {
+pub fn runs(number: u32) -> Vec<Run> {
     let p = FIELDS[number as usize].modulus;
     let commands = masked_commands(FIELDS[number as usize].largest_k as u8);
     let with = |(turn, &masked): (usize, &Masked)| {
@@ -81,10 +93,15 @@ fn runs(number: u32) -> Vec<Run> {
     commands.iter().enumerate().flat_map(with).collect()
 }
 
-/// The ends of k, and those of m where there is one; LTZ and OVER have m = k - 1.
+/// The ends of k, and with the largest k those of m.
+pub fn ends_of_k_and_m(largest: u8) -> [(u8, u8); 3] {
+    [(2, 1), (largest, 1), (largest, largest - 1)]
+}
+
+/// The commands at these ends; LTZ and OVER have m = k - 1.
 fn masked_commands(largest: u8) -> Vec<Masked> {
     let mut commands = Vec::new();
-    for (k, m) in [(2, 1), (largest, 1), (largest, largest - 1)] {
+    for (k, m) in ends_of_k_and_m(largest) {
         let bytes: &[u8] = if m == k - 1 {
             &[0x07, 0x08, 0x09, 0x0A, 0x0B]
         } else {

@@ -1,0 +1,24 @@
+//! The commands of a run, each with the registers before it.
+
+use crate::plain::{finished, Plain};
+use reference::field::Field;
+use reference::run_case::Case;
+use reference::script;
+use reference::script::command::Command;
+use reference::sheet::Sheet;
+
+/// What `look` finds at the commands that finish when the sheet is run.
+pub fn found<T>(case: &Case, look: impl Fn(&Field, &Plain, &Command) -> Option<T>) -> Vec<T> {
+    let Ok(sheet) = Sheet::read(&case.sheet) else {
+        return Vec::new();
+    };
+    let lines = script::read(sheet.script, sheet.field).unwrap_or_default();
+    let outcome = case.outcome();
+    let mut plain = Plain::new(&sheet);
+    let mut found = Vec::new();
+    for command in finished(&lines, &outcome) {
+        found.extend(look(sheet.field, &plain, command));
+        plain.perform(command);
+    }
+    found
+}
