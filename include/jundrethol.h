@@ -31,7 +31,7 @@ extern "C" {
 
 /* The version of this header and of the archive that is built beside it. While the first number stays, refusals and places in counts keep their
  * numbers, functions their parameters, and a function call that answers 0, 21 to 26 or 31 to 33 leaves the same values. A higher second number may add functions,
- * refusals, and counts after the last, and may run what was refused with 1 to 20. */
+ * refusals, and counts after the last, and may run what was refused with 1 to 20. Where the first number grows, the second starts at 0. */
 #define JUNDRETHOL_VERSION_MAJOR 2
 #define JUNDRETHOL_VERSION_MINOR 0
 

@@ -222,7 +222,7 @@ mod tests {
     }
 
     #[test]
-    fn tariff_of_the_paper() {
+    fn tariff_of_paper_and_requests() {
         let field = &FIELDS[2];
         let over = |a| worked(field, 5, |work| work.over(&sharing(field, a), 15, 170)).0;
         assert_eq!((over(170), over(171)), (0, 1));

@@ -1,4 +1,5 @@
--- The paper, "Figures to check": its P rows in one table, computed over the same definitions that the code meets.
+-- The paper, "Figures to check": its P rows in one table, computed over the same definitions that the code meets. "The paper's figures for BLOCKS change
+-- to these", says request 2.
 -- Assumes nothing.
 use mathlib.Core.Path.{_≡_}
 use mathlib.Core.Bool.{true, false}
@@ -100,7 +101,7 @@ figures =
     (1 ∷ 0 ∷ 6 ∷ [])
     -- field 2, OVER k=15 v=170 of 170, 171: 0, 1
     ∷ figure (result large (over large 15 170 (of large 170) wide) ∷ result large (over large 15 170 (of large 171) wide) ∷ []) (0 ∷ 1 ∷ [])
-    -- BLOCKS k=15 m=6 in field 2, of 179, 128, 0: "3", "128 stay 2; 0 stays 0"
+    -- BLOCKS k=15 m=6 in field 2, of 179, 128, 0. Request 2: "179 seconds in blocks of 64 are then 3; 128 stay 2; 0 stays 0."
     ∷ figure
     (result large (blocks large 15 6 (of large 179) wide) ∷ result large (blocks large 15 6 (of large 128) wide)
     ∷ result large (blocks large 15 6 (of large 0) wide) ∷ [])
@@ -120,10 +121,10 @@ Computes rows = map (λ f. f .computed) rows ≡ map (λ f. f .printed) rows
 pub record Figures : Type 0 where
   pub rows : Computes figures
   pub minus-two : readBack (small .p) (result small (floor small 3 1 (ofSigned small (negℤ (pos 3))) with5)) ≡ negℤ (pos 2)
-  -- "Blocks are exact while a read back, plus 2^m − 1 and not reduced by p, lies in the k-bit range": with k = 15 and m = 6 up to 16320 seconds, which
+  -- Request 2: "Blocks are exact while a read back, plus 2^m − 1 and not reduced by p, lies in the k-bit range": with k = 15 and m = 6 up to 16320 seconds, which
   -- are 255 blocks
   pub longest : (inRange 15 (pos (16320 + (2 ^ 6 - 1))) ≡ true) × (inRange 15 (pos (16321 + (2 ^ 6 - 1))) ≡ false)
       × (result large (blocks large 15 6 (of large 16320) wide) ≡ 255)
-  -- "not reduced by p": with m = 14 the sum of 32760 is not in the range, the sum modulo p is, and the result is −1
+  -- "not reduced by p": with m = 14 and a = 32760 the sum is not in the range, the sum modulo p, read back, is, and the result is −1
   pub wrapped : (inRange 15 (pos (32760 + (2 ^ 14 - 1))) ≡ false) × (inRange 15 (readBack (large .p) (add (large .p) 32760 (2 ^ 14 - 1))) ≡ true)
       × (readBack (large .p) (result large (blocks large 15 14 (of large 32760) wide)) ≡ negℤ (pos 1))

@@ -1,5 +1,5 @@
 -- The forms of the rows in SheetCases, ScriptCases, RunCases, MaskCases, EntryCases and CallCases: what the definitions give, and what the
--- reference answers by the paper and the request.
+-- reference answers by paper and requests.
 -- Assumes nothing.
 use mathlib.Core.Path.{_≡_}
 use mathlib.Core.Bool.{Bool, true, false, cond}

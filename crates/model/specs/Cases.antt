@@ -36,7 +36,7 @@ checks =
     ∷ checked true 1 1 1 3 0 ∷ checked true 1 1 1 3 1 ∷ checked false 1 1 1 3 1 ∷ checked true 0 1 1 3 1 ∷ checked true 1 0 1 3 1
     ∷ checked true 1 1 0 3 1 ∷ checked true 1 1 1 2 1 ∷ []
 
--- Each row of the six tables computes to what the reference, a separately written program, answers by the paper and the request. It writes the tables, and
+-- Each row of the six tables computes to what the reference, a separately written program, answers by paper and requests. It writes the tables, and
 -- the proved programs `cases`, `entries` and `call_cases` answer the same sheets, calls and lists.
 pub record Cases : Type 0 where
   pub sheets : Hold sheetCases

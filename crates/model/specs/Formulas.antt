@@ -62,7 +62,7 @@ pub record Exceeds (p k v a z : ℕ) : Type 0 where
   pub sign : Signs p k (sub p v a) z
   pub exact : T (inRange k (readBack p v -ℤ readBack p a)) → z ≡ one (ltZ (readBack p v) (readBack p a))
 
--- "each begun block": z blocks of M seconds hold a seconds, and fewer do not
+-- Request 2: "the carrier bills each begun block": z blocks of M seconds hold a seconds, and fewer do not.
 pub record Begun (M a z : ℕ) : Type 0 where
   pub hold : a ≤ z * M
   pub least : (b : ℕ) → a ≤ b * M → z ≤ b

@@ -67,7 +67,7 @@ pub record StepParts (S : Setting) : Type 0 where
   -- "LTZ is minus TRUNC with m = k − 1."
   pub sign-parts : (k : ℕ) (a : Row) (d : Deal)
       → (let x = floor S k (k - 1) a d in sign S k a d ≡ record { left = minus S (constant S 0) (x .left); opened = x .opened; deal = x .deal })
-  -- OVER: "LTZ of (v − a)"; BLOCKS: "TRUNC of a + 2^m − 1 with the same k and m"
+  -- OVER: "LTZ of (v − a)"; BLOCKS, by request 2: "TRUNC of a + 2^m − 1 with the same k and m"
   pub over-parts : (k v : ℕ) (a : Row) (d : Deal) → over S k v a d ≡ sign S k (minus S (constant S v) a) d
   pub blocks-parts : (k m : ℕ) (a : Row) (d : Deal) → blocks S k m a d ≡ floor S k m (plus S a (constant S (2 ^ m - 1))) d
   -- a `Step` leaves out revealed values, and there are none

@@ -41,7 +41,7 @@ negative p k a = sub p 0 (quot p k (k - 1) a)
 unfoldable pub exceeds : ℕ → ℕ → ℕ → ℕ → ℕ
 exceeds p k v a = negative p k (sub p v a)
 
--- "BLOCKS becomes TRUNC of a + 2^m − 1 with the same k and m."
+-- Request 2: "BLOCKS becomes TRUNC of a + 2^m − 1 with the same k and m."
 unfoldable pub charged : ℕ → ℕ → ℕ → ℕ → ℕ
 charged p k m a = quot p k m (add p a (2 ^ m - 1))
 

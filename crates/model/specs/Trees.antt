@@ -115,6 +115,7 @@ module _ (p : ℕ) {Operand : Type 0} (O : Ops Operand) where
       unfoldable pub over : ℕ → ℕ → Operand → (Operand → Tree Operand A) → Tree Operand A
       over k v a go = sign k (O .minus (O .constant v) a) go
 
-      -- BLOCKS, "the tariff's own rule": "the carrier bills each begun block. BLOCKS becomes TRUNC of a + 2^m − 1 with the same k and m."
+      -- "BLOCKS is the tariff's own rule", which request 2, "Begun blocks are charged", gives: "BLOCKS becomes TRUNC of a + 2^m − 1 with the same k
+      -- and m."
       unfoldable pub blocks : Remainder Operand A
       blocks k m a go = floor k m (O .plus a (O .constant (2 ^ m - 1))) go

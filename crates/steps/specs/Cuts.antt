@@ -37,7 +37,7 @@ module _ (S : Paper.Setting) where
   cutStep (Over k v) a d = over S k v a d
   cutStep (Blocks k m) a d = blocks S k m a d
 
-  -- the row whose remainder is taken. OVER: "LTZ of (v − a)"; BLOCKS: "TRUNC of a + 2^m − 1 with the same k and m"
+  -- the row whose remainder is taken. OVER: "LTZ of (v − a)"; BLOCKS, by request 2: "TRUNC of a + 2^m − 1 with the same k and m"
   abbrev pub beforeRow : Cut → Row → Row
   beforeRow (Mod k m) a = a
   beforeRow (Trunc k m) a = a

@@ -55,7 +55,7 @@ pub fn begun_row(setting: Setting, m: u32, a: Row) -> Row
     rows::add_public(setting, a, power - 1)
 }
 
-// The row whose remainder is taken. OVER: "LTZ of (v − a)"; BLOCKS: "TRUNC of a + 2^m − 1 with the same k and m".
+// The row whose remainder is taken. OVER: "LTZ of (v − a)"; BLOCKS, by request 2: "TRUNC of a + 2^m − 1 with the same k and m".
 pub fn before(setting: Setting, c: Cut, a: Row) -> Row
     requires { ⌜ Fitting setting × (lowOf c < 30) × (2 ^ lowOf c < setting .p) ⌝ }
     ensures { λ r. ⌜ r .shares ≡ beforeRow (settingOf setting) c (a .shares) ⌝ }

@@ -61,7 +61,7 @@ fn test_call(seconds: u32) -> Draft {
     dealt(seconds.into(), &commands, &[seconds], 1)
 }
 
-/// The blocks of three calls and their total.
+/// The begun blocks of three calls and their total.
 pub(super) fn three_calls() -> Draft {
     let mut commands: Vec<Command> = (0..3).map(|d| Command::Load { d }).collect();
     commands.extend((0..3).map(|a| blocks(a + 3, a)));
@@ -79,7 +79,7 @@ fn refused() -> Draft {
     draft
 }
 
-/// The blocks of three calls, one call after the other, with a mask for two of them.
+/// The begun blocks of three calls, one call after the other, with a mask for two of them.
 fn no_mask_left() -> Draft {
     let call = |d| [Command::Load { d }, blocks(d, d), Command::Reveal { a: d }];
     let commands: Vec<Command> = (0..3).flat_map(call).collect();

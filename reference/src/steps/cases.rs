@@ -219,7 +219,7 @@ mod tests {
         }
     }
 
-    /// There the number is the largest whose blocks are exact.
+    /// The number charged is then the largest whose blocks are exact.
     #[test]
     fn blocks_are_taken_where_the_sum_is_the_highest_number() {
         let cases = all();

@@ -1,4 +1,4 @@
-//! The paper's figures and its printed sheet, as whole runs.
+//! The figures of paper and requests and the printed sheet, as whole runs.
 
 use super::{bits_at, case};
 use crate::cases::generator::Generator;
