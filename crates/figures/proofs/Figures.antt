@@ -5,7 +5,7 @@ use Rattle.algebra.specs.Ring.{add, sub, mul}
 use Rattle.algebra.specs.Lists.{from}
 use Rattle.algebra.specs.Rows.{tab, row}
 use Rattle.model.specs.Fields.{modulus, bits, inverse, inversePowerOf2}
-use Rattle.model.specs.Coding.{inRange, code, readBack}
+use Rattle.model.specs.Coding.{code, readBack}
 use Rattle.model.specs.Sharing.{eval, share, newton, reciprocal, slope, interpolate, recover, secret}
 use Rattle.model.specs.Trees.{spelled, comparisonFrom, comparison as comparisonTree, remainder as remainderTree, floor as floorTree, sign as signTree, over as overTree, blocks as blocksTree}
 use Rattle.model.specs.Steps.{plus, minus, times, constant, value, byRows, product, comparison, remainder, floor, sign, over, blocks}
@@ -13,5 +13,5 @@ use Rattle.model.specs.Costs.{costBy}
 use Rattle.figures.specs.Figures.{figures, Figures}
 
 pub figures-hold : Figures
-unfolding add sub mul from tab row modulus bits inverse inversePowerOf2 inRange code readBack eval share newton reciprocal slope interpolate recover secret plus minus times constant value byRows product comparisonFrom comparison spelled remainder floor sign over blocks costBy figures comparisonTree remainderTree floorTree signTree overTree blocksTree
-figures-hold = record { rows = refl; minus-two = refl; longest = (refl, refl, refl); wrapped = (refl, refl, refl) }
+unfolding add sub mul from tab row modulus bits inverse inversePowerOf2 code readBack eval share newton reciprocal slope interpolate recover secret plus minus times constant value byRows product comparisonFrom comparison spelled remainder floor sign over blocks costBy figures comparisonTree remainderTree floorTree signTree overTree blocksTree
+figures-hold = record { rows = refl; minus-two = refl }

@@ -1,5 +1,6 @@
 pub mod Examples
 pub mod Figures
+pub mod Blocks
 pub mod Printed
 pub mod Witness
 pub mod Commanded

@@ -1,4 +1,4 @@
--- The paper, "Figures to check": the P rows once more, each as a command that is run between LOAD and REVEAL. Those of field 0 are run from the
+-- The paper, "Figures to check", and for BLOCKS request 2: the P rows once more, each as a command that is run between LOAD and REVEAL. Those of field 0 are run from the
 -- bytes of a sheet. Those of field 2 are run line by line on their rows: to read the 1,700 bytes of their sheets takes the checker too long.
 -- Assumes nothing.
 use mathlib.Core.List.{List, [], _∷_, _++_}
@@ -92,7 +92,7 @@ larges =
     ∷ figure (performed (LTZ 1 0 15) (of large 1)) (0 ∷ 1 ∷ 42 ∷ 86 ∷ 0 ∷ [])
     ∷ []
 
--- The P rows as commands: what each run gives is what the paper prints, with its counts.
+-- The P rows as commands: what each run gives is what is printed, with its counts.
 pub record Commanded : Type 0 where
   pub remainders-compute : Computes remainders
   pub signs-compute : Computes signs

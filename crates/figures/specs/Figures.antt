@@ -2,14 +2,12 @@
 -- to these", says request 2.
 -- Assumes nothing.
 use mathlib.Core.Path.{_≡_}
-use mathlib.Core.Bool.{true, false}
 use mathlib.Core.List.{List, [], _∷_, map}
-use Prim.Native.Nat.{ℕ, _+_, _-_, _^_}
+use Prim.Native.Nat.{ℕ}
 use lib.IntN.{ℤ, pos, negℤ}
 use lib.ListN.{length, replicate}
-use Rattle.algebra.specs.Ring.{add}
 use Rattle.model.specs.Fields.{modulus, bits}
-use Rattle.model.specs.Coding.{inRange, code, readBack}
+use Rattle.model.specs.Coding.{code, readBack}
 use Rattle.model.specs.Sharing.{share}
 use Rattle.model.specs.Steps.{Setting, Row, Deal, Step, value, comparison, remainder, floor, sign, over, blocks}
 use Rattle.model.specs.Parts.{stepC, stepF, stepU}
@@ -64,7 +62,7 @@ wide = dealt large 42 long
 abbrev pub result : Setting → Step → ℕ
 result S s = value S (s .left)
 
--- a P row: what the definitions give, and what the paper prints
+-- a P row: what the definitions give, and what the paper prints, for BLOCKS request 2
 pub record Figure : Type 0 where
   pub computed : List ℕ
   pub printed : List ℕ
@@ -113,7 +111,7 @@ figures =
     (42 ∷ 85 ∷ 85 ∷ 0 ∷ 0 ∷ [])
     ∷ []
 
--- what the definitions give is what the paper prints, row by row
+-- what the definitions give is what is printed, row by row
 abbrev pub Computes : List Figure → Type 0
 Computes rows = map (λ f. f .computed) rows ≡ map (λ f. f .printed) rows
 
@@ -121,10 +119,3 @@ Computes rows = map (λ f. f .computed) rows ≡ map (λ f. f .printed) rows
 pub record Figures : Type 0 where
   pub rows : Computes figures
   pub minus-two : readBack (small .p) (result small (floor small 3 1 (ofSigned small (negℤ (pos 3))) with5)) ≡ negℤ (pos 2)
-  -- Request 2: "Blocks are exact while a read back, plus 2^m − 1 and not reduced by p, lies in the k-bit range": with k = 15 and m = 6 up to 16320 seconds, which
-  -- are 255 blocks
-  pub longest : (inRange 15 (pos (16320 + (2 ^ 6 - 1))) ≡ true) × (inRange 15 (pos (16321 + (2 ^ 6 - 1))) ≡ false)
-      × (result large (blocks large 15 6 (of large 16320) wide) ≡ 255)
-  -- "not reduced by p": with m = 14 and a = 32760 the sum is not in the range, the sum modulo p, read back, is, and the result is −1
-  pub wrapped : (inRange 15 (pos (32760 + (2 ^ 14 - 1))) ≡ false) × (inRange 15 (readBack (large .p) (add (large .p) 32760 (2 ^ 14 - 1))) ≡ true)
-      × (readBack (large .p) (result large (blocks large 15 14 (of large 32760) wide)) ≡ negℤ (pos 1))

@@ -1,4 +1,5 @@
 pub mod Figures
+pub mod Blocks
 pub mod Printed
 pub mod Witness
 pub mod Commanded

@@ -15,7 +15,7 @@ use Rattle.figures.specs.Figures.{small, of, five}
 abbrev pub script : List ℕ
 script =
     1 ∷ 0 ∷ 2 ∷ 1 ∷ 2 ∷ 0 ∷ 0 ∷ 0 ∷ 3 ∷ 2 ∷ 0 ∷ 1 ∷ 4 ∷ 3 ∷ 0 ∷ 1 ∷ 5 ∷ 4 ∷ 0 ∷ 3 ∷ 0 ∷ 0 ∷ 0 ∷ 6 ∷ 5 ∷ 0 ∷ 1 ∷ 7 ∷ 6 ∷ 0 ∷ 3 ∷ 1 ∷ 8 ∷ 7 ∷ 0 ∷ 3 ∷ 1 ∷ 9 ∷ 8 ∷ 0 ∷ 3
-    ∷ 10 ∷ 9 ∷ 0 ∷ 3 ∷ 1 ∷ 0 ∷ 0 ∷ 0 ∷ 11 ∷ 10 ∷ 0 ∷ 3 ∷ 1 ∷ 13 ∷ 11 ∷ 8 ∷ 2 ∷ 1 ∷ 0 ∷ 0 ∷ 0 ∷ 12 ∷ 11 ∷ 0 ∷ []
+    ∷ 10 ∷ 9 ∷ 0 ∷ 3 ∷ 1 ∷ 0 ∷ 0 ∷ 0 ∷ 11 ∷ 10 ∷ 2 ∷ 3 ∷ 1 ∷ 13 ∷ 11 ∷ 8 ∷ 2 ∷ 1 ∷ 0 ∷ 0 ∷ 0 ∷ 12 ∷ 11 ∷ 0 ∷ []
 
 abbrev pub line : ℕ → Command → Line
 line place c = record { place = place; command = c }
@@ -23,7 +23,7 @@ line place c = record { place = place; command = c }
 unfoldable pub lines : List Line
 lines =
     line 0 (LOAD 0) ∷ line 2 (CONST 1 2) ∷ line 8 (ADD 2 0 1) ∷ line 12 (SUB 3 0 1) ∷ line 16 (SCALE 4 0 3) ∷ line 23 (MUL 5 0 1) ∷ line 27 (MOD 6 0 3 1)
-    ∷ line 32 (TRUNC 7 0 3 1) ∷ line 37 (LTZ 8 0 3) ∷ line 41 (OVER 9 0 3 1) ∷ line 49 (BLOCKS 10 0 3 1) ∷ line 54 (BITLT 11 8 2 1) ∷ line 62 (REVEAL 11) ∷ []
+    ∷ line 32 (TRUNC 7 0 3 1) ∷ line 37 (LTZ 8 0 3) ∷ line 41 (OVER 9 0 3 1) ∷ line 49 (BLOCKS 10 2 3 1) ∷ line 54 (BITLT 11 8 2 1) ∷ line 62 (REVEAL 11) ∷ []
 
 unfoldable pub sheet : List ℕ
 sheet =
@@ -43,4 +43,4 @@ pub record Witness : Type 0 where
   pub has-lines : is-accepted .lines ≡ lines
   pub has-end : is-accepted .end ≡ 64
   pub stops : seen (stopOf sheet 174 1)
-      ≡ (0 ∷ 64 ∷ 1 ∷ 5 ∷ 26 ∷ 58 ∷ 1 ∷ []) ∷ (0 ∷ []) ∷ (12 ∷ 2 ∷ 1 ∷ 10 ∷ 10 ∷ 11 ∷ 1 ∷ 12 ∷ 1 ∷ 0 ∷ 0 ∷ 0 ∷ []) ∷ []
+      ≡ (0 ∷ 64 ∷ 1 ∷ 5 ∷ 26 ∷ 58 ∷ 1 ∷ []) ∷ (0 ∷ []) ∷ (12 ∷ 2 ∷ 1 ∷ 10 ∷ 10 ∷ 11 ∷ 1 ∷ 12 ∷ 1 ∷ 0 ∷ 1 ∷ 0 ∷ []) ∷ []

@@ -1,21 +1,23 @@
 -- What the plain interpreter's formulas are in ℤ, in every field of the table.
 -- Assumes nothing.
 use mathlib.Core.Path.{_≡_, ap, _∙_}
+use mathlib.Core.Logic.{_↔_}
 use Prim.Native.Nat.{ℕ, suc, _+_, _-_, _*_, _/_, _^_, _≤_, _<_}
 use native.Mathlib.Nat.{mod-eq-of-lt, div-le-self, pow-suc}
+use native.Mathlib.Decide.{decLt}
 use native.Mathlib.Omega.{arith}
+use borrow.Author.Tests.{le-ltb}
 use lib.Dec.{T}
-use lib.IntN.{ℤ, pos, _+ℤ_, _-ℤ_, _*ℤ_, +ℤ-comm}
+use lib.IntN.{ℤ, pos, negsuc, subℕ, _-ℤ_, _*ℤ_, +ℤ-comm}
 use lib.Pow.{pow-pos, pow-mono, pow-add}
 use lib.Signed.{mag, ltZ, shrZ, mag-shr}
-use Rattle.algebra.specs.Ring.{add}
 use Rattle.model.specs.Fields.{powerOf2, inversePowerOf2, Field}
 use Rattle.model.specs.Coding.{inRange, code, readBack}
 use Rattle.model.specs.Plain.{rem, quot, negative, exceeds}
-use Rattle.model.specs.Formulas.{Division, one}
+use Rattle.model.specs.Formulas.{Division, one, blocksSum}
 use Rattle.model.proofs.Fields.{power-inverse}
-use Rattle.model.proofs.Coding.{in-magnitude, code-below, code-floor, read-code, code-read}
-use Rattle.model.proofs.Signed.{sign-sub, code-sub, code-add, floor-is, remainder-is, sign-is}
+use Rattle.model.proofs.Coding.{in-magnitude, below-zero, reads-up, reads-down, code-below, code-floor, read-code, code-read}
+use Rattle.model.proofs.Signed.{sign-sub, code-sub, floor-is, remainder-is, sign-is}
 
 module _ {p l K : ℕ} (F : Field p l K) where
   pub twice-fits : (k : ℕ) → 1 ≤ k → k ≤ K → 2 ^ (k - 1) + 2 ^ (k - 1) < p
@@ -52,22 +54,34 @@ module _ {p l K : ℕ} (F : Field p l K) where
   pub negative-read : (k x : ℕ) → 2 ≤ k → k ≤ K → x < p → T (inRange k (readBack p x)) → negative p k x ≡ one (ltZ (readBack p x) (pos 0))
   negative-read k x h hk l t = rw (code-read p x l) at (negative-code k (readBack p x) h hk t)
 
-  -- the floor of a sum that is in range: of 0 or more, and of every sum
-  pub floor-of-sum : (k m c x : ℕ) → k ≤ K → m < k → x + c < 2 ^ (k - 1) → quot p k m (add p x c) ≡ (x + c) / 2 ^ m
-  unfolding code add
-  floor-of-sum k m c x hk hm r =
+  -- what is said of a signed number, of the value that codes it: its division, and the floor where it is 0 or more
+  pub division-of : (k m x : ℕ) (y : ℤ) → k ≤ K → m < k → code p y ≡ x → T (inRange k y) → Division y (2 ^ m) (readBack p (quot p k m x)) (rem p k m x)
+  division-of k m x y hk hm e t = rw e at (division-code k m y hk hm (in-magnitude k y .0 t))
+
+  pub floor-of : (k m x s : ℕ) → k ≤ K → m < k → code p (pos s) ≡ x → T (inRange k (pos s)) → quot p k m x ≡ s / 2 ^ m
+  floor-of k m x s hk hm e t =
+      let r : s < 2 ^ (k - 1) = in-magnitude k (pos s) .0 t in
       let f = twice-fits k (omega arith) hk in
-      rw (mod-eq-of-lt {n = (x + c) / 2 ^ m} {m = p} (omega (arith, div-le-self (x + c) (2 ^ m)))) at (quot-code k m (pos (x + c)) hk hm r)
+      rw e at (quot-code k m (pos s) hk hm r) ∙ unfold code in mod-eq-of-lt {n = s / 2 ^ m} {m = p} (omega (arith, div-le-self s (2 ^ m)))
 
-  pub division-of-sum : (k m c x : ℕ) → k ≤ K → m < k → x < p
-      → (let y = readBack p x +ℤ pos c in T (inRange k y) → Division y (2 ^ m) (readBack p (quot p k m (add p x c))) (rem p k m (add p x c)))
-  division-of-sum k m c x hk hm l t =
-      let y = readBack p x +ℤ pos c in
-      rw (code-add {p = p} (omega arith) (readBack p x) c, code-read p x l) at (division-code k m y hk hm (in-magnitude k y .0 t))
+  -- the ends of where BLOCKS is exact
+  pub charged-up : (k m a : ℕ) → a ≤ (p - 1) / 2 → T (inRange k (blocksSum p m a)) ↔ (a + 2 ^ m ≤ 2 ^ (k - 1))
+  charged-up k m a l =
+      let I : T (inRange k (pos (a + (2 ^ m - 1)))) ↔ (a + (2 ^ m - 1) < 2 ^ (k - 1)) = in-magnitude k (pos (a + (2 ^ m - 1))) in
+      rw (reads-up p a l) (λ t. omega (arith, I .0 t, pow-pos m), λ r. I .1 (omega (arith, pow-pos m)))
 
-  pub division-read : (k m x : ℕ) → 2 ≤ k → k ≤ K → 1 ≤ m → m < k → x < p → T (inRange k (readBack p x))
-      → Division (readBack p x) (2 ^ m) (readBack p (quot p k m x)) (rem p k m x)
-  division-read k m x _ hk _ hm l t = rw (code-read p x l) at (division-code k m (readBack p x) hk hm (in-magnitude k (readBack p x) .0 t))
+  pub charged-down : (k m n : ℕ) → m < k → n < (p - 1) / 2 → T (inRange k (blocksSum p m (p - suc n))) ↔ (suc n < 2 ^ (k - 1) + 2 ^ m)
+  charged-down k m n h l =
+      let e : readBack p (p - suc n) ≡ negsuc n = reads-down p (p - suc n) (omega (arith, F .modulus-is .odd)) (omega arith) ∙ ap negsuc (omega arith) in
+      rw e (go (2 ^ m - 1) (decLt (2 ^ m - 1) (suc n)) (omega (arith, pow-pos m, pow-mono {i = m} {j = k - 1} (omega arith))) (omega (arith, pow-pos m)))
+    where
+      go : (c : ℕ) → Dec (c < suc n) → c < 2 ^ (k - 1) → 2 ^ m ≡ suc c → T (inRange k (subℕ c (suc n))) ↔ (suc n < 2 ^ (k - 1) + 2 ^ m)
+      go c (yes d) f g =
+          let I : T (inRange k (negsuc (n - c))) ↔ (n - c < 2 ^ (k - 1)) = in-magnitude k (negsuc (n - c)) in
+          rw (below-zero c (suc n) (n - c) (omega arith)) (λ t. omega (arith, I .0 t), λ r. I .1 (omega arith))
+      go c (no d) f g =
+          let I : T (inRange k (pos (c - suc n))) ↔ (c - suc n < 2 ^ (k - 1)) = in-magnitude k (pos (c - suc n)) in
+          rw (le-ltb c (suc n) (omega arith)) (λ t. omega arith, λ r. I .1 (omega arith))
 
   pub exceeds-code : (k : ℕ) (v a : ℤ) → 2 ≤ k → k ≤ K → T (inRange k (v -ℤ a)) → exceeds p k (code p v) (code p a) ≡ one (ltZ v a)
   unfolding exceeds

@@ -1,22 +1,24 @@
 -- The plain interpreter's formulas as equations modulo p and in ℤ, in every field of the table.
 -- Assumes nothing.
-use mathlib.Core.Path.{_≡_, refl}
+use mathlib.Core.Path.{_≡_, refl, ap, _∙_}
 use Prim.Native.Nat.{ℕ, _+_, _-_, _*_, _%_, _^_, _≤_, _<_}
 use native.Mathlib.Nat.{mod-lt}
 use native.Mathlib.Omega.{arith}
+use lib.IntN.{pos, _+ℤ_}
 use lib.Pow.{pow-pos}
 use Rattle.algebra.specs.Ring.{add, sub, mul}
 use Rattle.algebra.proofs.Lists.{all-below}
 use Rattle.algebra.proofs.Ring.{ring, mod-ring, given, reduced, add-lt, sub-lt}
 use Rattle.model.specs.Fields.{Field, powerOf2, inversePowerOf2}
-use Rattle.model.specs.Coding.{readBack}
+use Rattle.model.specs.Coding.{code, readBack}
 use Rattle.model.specs.Plain.{rem, quot, negative, exceeds, charged}
 use Rattle.model.specs.Formulas.{Remains, Divides, Signs, Charges, Exact, EveryFormula}
 use Rattle.model.proofs.Fields.{fields, power-inverse}
 use Rattle.model.proofs.Coding.{code-read}
+use Rattle.model.proofs.Signed.{code-add}
 use Rattle.model.proofs.Comparing.{less-is}
 use Rattle.model.proofs.Dividing.{begun-is}
-use Rattle.model.proofs.Exact.{twice-fits, negative-read, exceeds-code, floor-of-sum, division-of-sum, division-read}
+use Rattle.model.proofs.Exact.{twice-fits, negative-read, exceeds-code, division-of, floor-of, charged-up, charged-down}
 
 -- q is (a − r) times the inverse i of M: q times M and r are a
 undivided : {p : ℕ} (M i a r : ℕ) → 0 < p → a < p → mul p (M % p) i ≡ 1 → (mul p i (sub p a r) * M + r) % p ≡ a
@@ -34,12 +36,12 @@ module _ {p l K : ℕ} (F : Field p l K) where
   inverse-of m = unfold powerOf2 in power-inverse (F .modulus-is) m
 
   remains : (k m a : ℕ) → 2 ≤ k → k ≤ K → 1 ≤ m → m < k → a < p → Remains p k m a (rem p k m a)
-  remains k m a l g i j h = record { exact = λ t. record { floor = _; division = division-read F k m a l g i j h t }; formula = unfold rem add in refl }
+  remains k m a l g i j h = record { exact = λ t. record { floor = _; division = division-of F k m a (readBack p a) g j (code-read p a h) t }; formula = unfold rem add in refl }
 
   divides : (k m a : ℕ) → 2 ≤ k → k ≤ K → 1 ≤ m → m < k → a < p → Divides p k m a (quot p k m a)
   divides k m a l g i j h =
       record {
-        exact = λ t. record { remainder = _; division = division-read F k m a l g i j h t };
+        exact = λ t. record { remainder = _; division = division-of F k m a (readBack p a) g j (code-read p a h) t };
         formula = unfold quot rem add in undivided (2 ^ m) (inversePowerOf2 p m) a _ positive h (inverse-of m);
       }
 
@@ -55,10 +57,11 @@ module _ {p l K : ℕ} (F : Field p l K) where
   unfolding charged
   charges k m a l g i j h =
       let c = 2 ^ m - 1 in
+      let e : code p (readBack p a +ℤ pos c) ≡ add p a c = code-add positive (readBack p a) c ∙ ap (λ (v : ℕ). add p v c) (code-read p a h) in
       record {
         divides = divides k m (add p a c) l g i j (add-lt a c positive);
-        exact = λ t. record { remainder = _; division = division-of-sum F k m c a g j h t };
-        begun = λ s. rw (floor-of-sum F k m c a g j s) (begun-is (2 ^ m) a (pow-pos m));
+        exact = λ t. record { remainder = _; division = division-of F k m (add p a c) (readBack p a +ℤ pos c) g j e t };
+        begun = λ s q t. rw (floor-of F k m (add p a c) (s + c) g j (rw q at e) (rw q at t)) (begun-is (2 ^ m) s (pow-pos m));
       }
 
   pub field-exact : Exact p K
@@ -73,6 +76,8 @@ module _ {p l K : ℕ} (F : Field p l K) where
               exact = λ t. rw (code-read p v i, code-read p a h) at (exceeds-code F k (readBack p v) (readBack p a) l g t);
             };
         charges = charges;
+        charges-up = charged-up F;
+        charges-down = charged-down F;
         compares = λ v bs n h. record { exact = λ t. less-is p v bs (omega arith) (all-below 2 bs .0 t) n h; rule = refl };
       }
 

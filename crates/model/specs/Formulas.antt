@@ -2,9 +2,10 @@
 -- said by arithmetic alone, of a secret a that a command reads and the secret z that it leaves; BITLT of what are not bits by the rule `less`.
 -- Assumes nothing.
 use mathlib.Core.Path.{_≡_}
+use mathlib.Core.Logic.{_↔_}
 use mathlib.Core.Bool.{Bool, cond}
 use mathlib.Core.List.{List}
-use Prim.Native.Nat.{ℕ, _+_, _-_, _*_, _/_, _%_, _^_, _≤_, _<_}
+use Prim.Native.Nat.{ℕ, suc, _+_, _-_, _*_, _/_, _%_, _^_, _≤_, _<_}
 use lib.Dec.{T, ltb}
 use lib.IntN.{ℤ, pos, _+ℤ_, _-ℤ_, _*ℤ_}
 use lib.ListN.{length}
@@ -71,13 +72,17 @@ pub record Begun (M a z : ℕ) : Type 0 where
 abbrev pub OneBegun : Type 0
 OneBegun = (M a z z′ : ℕ) → Begun M a z → Begun M a z′ → z ≡ z′
 
--- BLOCKS leaves z of a: "TRUNC of a + 2^m − 1 with the same k and m". "Blocks are exact while a read back, plus 2^m − 1 and not reduced by p, lies
--- in the k-bit range": z is then the floor of that sum, and of a call of 0 seconds or more the number of begun blocks. TRUNC's own claim is of the
--- sum modulo p, which can lie in the range where the sum does not.
+-- "a read back, plus 2^m − 1 and not reduced by p"
+abbrev pub blocksSum : ℕ → ℕ → ℕ → ℤ
+blocksSum p m a = readBack p a +ℤ pos (2 ^ m - 1)
+
+-- BLOCKS leaves z of a: "TRUNC of a + 2^m − 1 with the same k and m", a sum modulo p. "Blocks are exact while" the sum of ℤ "lies in the k-bit range": z
+-- read back is then its floor, and for a number of 0 or more z is how many blocks are begun. Where the sum of ℤ does not lie in the range, the sum modulo
+-- p, read back, may: then z is TRUNC of that.
 pub record Charges (p k m a z : ℕ) : Type 0 where
   pub divides : Divides p k m (add p a (2 ^ m - 1)) z
-  pub exact : (let x = readBack p a +ℤ pos (2 ^ m - 1) in T (inRange k x) → FloorOf x (2 ^ m) (readBack p z))
-  pub begun : a + (2 ^ m - 1) < 2 ^ (k - 1) → Begun (2 ^ m) a z
+  pub exact : T (inRange k (blocksSum p m a)) → FloorOf (blocksSum p m a) (2 ^ m) (readBack p z)
+  pub begun : (s : ℕ) → readBack p a ≡ pos s → T (inRange k (blocksSum p m a)) → Begun (2 ^ m) s z
 
 -- BITLT leaves z of the secrets bs: "1 if v < the number in bits b.." where they are bits. "If registers are not bits, this rule still says what
 -- comes out": the rule is `less`.
@@ -92,6 +97,9 @@ pub record Exact (p K : ℕ) : Type 0 where
   pub signs : (k a : ℕ) → 2 ≤ k → k ≤ K → a < p → Signs p k a (negative p k a)
   pub exceeds-by : (k v a : ℕ) → 2 ≤ k → k ≤ K → v < p → a < p → Exceeds p k v a (exceeds p k v a)
   pub charges : (k m a : ℕ) → 2 ≤ k → k ≤ K → 1 ≤ m → m < k → a < p → Charges p k m a (charged p k m a)
+  -- where BLOCKS is exact: of numbers from 0 on up to 2^(k−1) − 2^m, and of those below 0, p − (n + 1) being −(n + 1), down to −2^(k−1) − 2^m + 1
+  pub charges-up : (k m a : ℕ) → a ≤ (p - 1) / 2 → T (inRange k (blocksSum p m a)) ↔ (a + 2 ^ m ≤ 2 ^ (k - 1))
+  pub charges-down : (k m n : ℕ) → m < k → n < (p - 1) / 2 → T (inRange k (blocksSum p m (p - suc n))) ↔ (suc n < 2 ^ (k - 1) + 2 ^ m)
   pub compares : (v : ℕ) (bs : List ℕ) → 1 ≤ length bs → v < 2 ^ length bs → Compares p v bs (less p v bs)
 
 -- for every field in use
