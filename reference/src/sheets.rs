@@ -12,6 +12,7 @@ pub mod stored;
 mod wrong;
 
 use crate::cases::generator::Generator;
+use crate::field::Field;
 use crate::run_case::{Case, LONGEST_RECORD, LONGEST_REVEALED};
 use good::Good;
 
@@ -35,11 +36,17 @@ pub fn sheet_for(seed: u64, index: u64) -> Case {
     }
 }
 
-/// The lowest and the highest number whose blocks are exact: with 2^m - 1 added it is in the k-bit
-/// range.
-fn exact_blocks(k: u8, m: u8) -> (i64, i64) {
+/// The highest number of the field; the lowest is minus this.
+fn highest_of(field: &Field) -> i64 {
+    i64::from(field.modulus - 1) / 2
+}
+
+/// The lowest and the highest number of the field that BLOCKS charges exactly: with 2^m - 1 added, and
+/// not reduced by p, it is in the k-bit range.
+fn exactly_charged(field: &Field, k: u8, m: u8) -> (i64, i64) {
     let (half, block) = (1 << (k - 1), 1 << m);
-    (-half - (block - 1), half - block)
+    let lowest = -half - (block - 1);
+    (lowest.max(-highest_of(field)), half - block)
 }
 
 /// Mostly room for the whole script, else for the commands up to one of them, or one less.
@@ -105,11 +112,18 @@ fn damaged(generator: &mut Generator, mut sheet: Vec<u8>) -> Vec<u8> {
 #[cfg(test)]
 mod tests {
     use super::*;
+    use crate::field::FIELDS;
 
     /// Blocks of 64 seconds in field 2.
     #[test]
     fn calls_of_up_to_16320_seconds_are_charged_exactly() {
-        assert_eq!(exact_blocks(15, 6), (-16_447, 16_320));
+        assert_eq!(exactly_charged(&FIELDS[2], 15, 6), (-16_447, 16_320));
+    }
+
+    /// -32,767 with 16,383 added is the lowest number of 15 bits, but field 2 has none below -32,760.
+    #[test]
+    fn no_number_below_the_lowest_of_the_field_is_charged() {
+        assert_eq!(exactly_charged(&FIELDS[2], 15, 14), (-32_760, 0));
     }
 
     #[test]

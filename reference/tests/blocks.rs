@@ -40,7 +40,7 @@ impl Charge {
         is_in_range(self.sum(), self.k)
     }
 
-    /// Whether the sum is out of the range, and in it once it is reduced by p.
+    /// Whether the sum is out of the range, and in it once p is taken off.
     fn wraps_into_range(&self) -> bool {
         !self.is_exact() && is_in_range(self.sum() - self.p, self.k)
     }
@@ -111,8 +111,8 @@ fn stored_sheets_charge_each_kind_of_number() {
     }
 }
 
-/// With the largest k and m in every field but the last, whose highest sum, reduced by p, is one below
-/// the range.
+/// With the largest k and m in every field but the last, whose highest sum, once p is taken off, is one
+/// below the range.
 #[test]
 fn stored_sheets_charge_numbers_whose_sum_wraps_into_the_range() {
     let charges = stored_charges();

@@ -1,6 +1,6 @@
 //! Random scripts with operands in range, mostly of registers that are set.
 
-use super::exact_blocks;
+use super::{exactly_charged, highest_of};
 use crate::cases::generator::Generator;
 use crate::field::Field;
 use crate::script::command::{Command, Cost};
@@ -126,13 +126,14 @@ impl<'a> Drawer<'a> {
     }
 
     /// Half of them of a number that is loaded for it: an end of what is exact, its neighbour outside,
-    /// or the field's highest.
+    /// or the field's highest, which modulo p is also one below the field's lowest.
     fn blocks(&mut self, d: u8, a: u8, k: u8, m: u8) {
         if self.generator.below(2) == 0 {
-            let p = i64::from(self.field.modulus);
-            let (lowest, highest) = exact_blocks(k, m);
-            let ends = [lowest - 1, lowest, highest, highest + 1, (p - 1) / 2];
-            let value = self.generator.pick(&ends).rem_euclid(p);
+            let (lowest, highest) = exactly_charged(self.field, k, m);
+            let of_field = highest_of(self.field);
+            let numbers = [lowest - 1, lowest, highest, highest + 1, of_field];
+            let number = self.generator.pick(&numbers);
+            let value = number.rem_euclid(self.field.modulus.into());
             self.load_value(a, value as u32);
         }
         self.push(Command::Blocks { d, a, k, m });

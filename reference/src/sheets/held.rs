@@ -196,6 +196,14 @@ mod tests {
                 "BLOCKS m=2, 6: 12; 6 + 3 is out of range, though 9 - 13 is in it",
                 12,
             ),
+            (
+                "BLOCKS k=2 m=1, -3: 12; -3 + 1 is the lowest number in range",
+                12,
+            ),
+            (
+                "BLOCKS k=2 m=1, -4: 5; -4 + 1 is out of range, though with k=3 it is in it",
+                5,
+            ),
             ("MOD m=2, -1: 3", 3),
             ("field 1, MOD k=7 m=2, -41: 3", 3),
         ] {

@@ -98,14 +98,17 @@ impl Maker<'_> {
         .collect()
     }
 
-    /// BLOCKS works on a + 2^m - 1, which is to be the highest number.
+    /// BLOCKS of the highest number that is exact, which for m = k - 1 is 0; for a smaller m of the one
+    /// below it, which begins as many blocks and does not fill the last.
     fn floors(&mut self, (k, m): (u32, u32)) -> Vec<StepCase> {
         let (lowest, highest) = self.ends(k);
         let last = self.dealer.field.modulus - 1;
+        let highest_exact = highest + 1 - (1 << m);
+        let charged = highest_exact - u32::from(m < k - 1);
         [
             (Step::Trunc, lowest),
             (Step::Trunc, last),
-            (Step::Blocks, highest + 1 - (1 << m)),
+            (Step::Blocks, charged),
         ]
         .into_iter()
         .map(|(step, a)| self.with_any_mask(step, (k, m, 0), a))
@@ -219,26 +222,47 @@ mod tests {
         }
     }
 
-    /// The number charged is then the largest whose blocks are exact.
+    /// Where m = k - 1 the highest exact number is 0. half - 3 seconds begin (half - 2) / 2 blocks and do
+    /// not fill the last.
     #[test]
-    fn blocks_are_taken_where_the_sum_is_the_highest_number() {
+    fn blocks_are_taken_of_the_highest_exact_number_and_of_one_below_it() {
         let cases = all();
-        let blocks = cases.iter().filter(|case| case.step == Step::Blocks);
-        for case in blocks.clone() {
-            assert_eq!(worked_on(case), (1 << (case.k - 1)) - 1, "{case:?}");
+        for (number, field) in (0..).zip(&FIELDS) {
+            let blocks = cases
+                .iter()
+                .filter(|case| (case.number, case.step) == (number, Step::Blocks));
+            let found: Vec<_> = blocks.map(charge).collect();
+            let largest = field.largest_k;
+            let half = 1 << (largest - 1);
+            let expected = [
+                (3, largest, largest - 1, 0, 0),
+                (3, largest, 1, half - 3, (half - 2) / 2),
+                (3, 2, 1, 0, 0),
+                (7, largest, largest - 1, 0, 0),
+            ];
+            assert_eq!(found, expected, "field {number}");
         }
-        assert_eq!(blocks.count(), 4 * (3 + 1));
     }
 
-    /// The number whose floor or sign is taken.
+    /// Parties, k, m, the number charged and its blocks.
+    fn charge(case: &StepCase) -> (u32, u32, u32, u64, u64) {
+        let charged = secret(case, &case.operands[0]);
+        let blocks = secret(case, &case.answer().unwrap().left);
+        (case.parties, case.k, case.m, charged, blocks)
+    }
+
+    /// The number whose sign is taken.
     fn worked_on(case: &StepCase) -> u64 {
-        let weights = Weights::new(case.field, case.parties as usize, case.threshold as usize);
-        let a = weights.secret(&case.operands[0]);
+        let a = secret(case, &case.operands[0]);
         match case.step {
             Step::Over => case.field.subtract(case.v.into(), a),
-            Step::Blocks => case.field.add(a, (1 << case.m) - 1),
             _ => a,
         }
+    }
+
+    fn secret(case: &StepCase, row: &Row) -> u64 {
+        let weights = Weights::new(case.field, case.parties as usize, case.threshold as usize);
+        weights.secret(row)
     }
 
     /// The proved program reads so many bytes.

@@ -78,12 +78,12 @@ fn floor_formula(field: &Field, a: u64, k: u8, m: u8) -> u64 {
 }
 
 /// Where a + 2^m - 1, not reduced by p, is in the k-bit range, its exact floor: for a of 0 or more the
-/// begun blocks. Else what the formula says of the reduced sum, even if that is in the range.
+/// begun blocks. Else what the formula says of the reduced sum, even if that reads back in the range.
 fn blocks(field: &Field, a: u64, k: u8, m: u8) -> u64 {
-    let (read, rest) = (read_back(field, a), (1 << m) - 1);
-    let sum = read + rest;
+    let (read, added) = (read_back(field, a), (1 << m) - 1);
+    let sum = read + added;
     if !is_in_range(sum, k) {
-        return floor_formula(field, field.add(a, rest as u64), k, m);
+        return floor_formula(field, field.add(a, added as u64), k, m);
     }
     let blocks = sum.div_euclid(1 << m);
     if let Ok(seconds) = u64::try_from(read) {

@@ -285,16 +285,29 @@ fn with_masks() -> Vec<Small> {
     ]
 }
 
-/// A block that is begun, and a sum that only its reduction by p brings into the range.
+/// A block that is begun, and a sum that is in the range only once p is taken off; with a k that is not
+/// the largest, the lowest number that is exact and the one below it.
 fn more_blocks() -> Vec<Small> {
-    let (d, a, k) = (1, 0, 3);
-    let blocks = |m| Command::Blocks { d, a, k, m };
+    let (d, a) = (1, 0);
+    let blocks = |k, m| Command::Blocks { d, a, k, m };
     vec![
-        one("BLOCKS m=1, 1: 1, which is begun", blocks(1), 1, 5),
+        one("BLOCKS m=1, 1: 1, which is begun", blocks(3, 1), 1, 5),
         one(
             "BLOCKS m=2, 6: 12; 6 + 3 is out of range, though 9 - 13 is in it",
-            blocks(2),
+            blocks(3, 2),
             6,
+            5,
+        ),
+        one(
+            "BLOCKS k=2 m=1, -3: 12; -3 + 1 is the lowest number in range",
+            blocks(2, 1),
+            10,
+            5,
+        ),
+        one(
+            "BLOCKS k=2 m=1, -4: 5; -4 + 1 is out of range, though with k=3 it is in it",
+            blocks(2, 1),
+            9,
             5,
         ),
     ]

@@ -4,9 +4,9 @@ use std::collections::BTreeSet;
 
 use super::ends::{ends_of_k_and_m, runs, sheets_of, Masked, Run};
 use crate::cases::generator::Generator;
-use crate::field::FIELDS;
+use crate::field::{Field, FIELDS};
 use crate::run_case::Case;
-use crate::sheets::exact_blocks;
+use crate::sheets::{exactly_charged, highest_of};
 
 /// The field, k and m of a tariff with blocks of 64 seconds.
 const TARIFF: (u32, (u8, u8)) = (2, (15, 6));
@@ -31,11 +31,11 @@ fn further_runs(number: u32) -> Vec<Run> {
 
 /// BLOCKS with each k and m, and the numbers that it works on, modulo p.
 fn asked(number: u32) -> Vec<(Masked, u32)> {
-    let p = i64::from(FIELDS[number as usize].modulus);
+    let field = &FIELDS[number as usize];
     let mut asked = Vec::new();
     for (k, m) in widths(number) {
-        let sum = |a: i64| (a + (1 << m) - 1).rem_euclid(p) as u32;
-        let numbers = numbers(p, k, m).into_iter();
+        let sum = |a: i64| (a + (1 << m) - 1).rem_euclid(field.modulus.into()) as u32;
+        let numbers = numbers(field, k, m).into_iter();
         asked.extend(numbers.map(|a| ((0x0B, k, m), sum(a))));
     }
     asked
@@ -49,13 +49,13 @@ fn widths(number: u32) -> Vec<(u8, u8)> {
     widths
 }
 
-/// The ends of what is exact and their neighbours outside, none below the lowest number of the field;
-/// a block below 0, and numbers next to 0; and the field's highest, whose sum reads back as negative.
-fn numbers(p: i64, k: u8, m: u8) -> BTreeSet<i64> {
-    let (lowest, highest) = exact_blocks(k, m);
-    let of_field = (p - 1) / 2;
-    let ends = [lowest - 1, lowest, highest, highest + 1];
+/// The ends of what is exact and their neighbours outside, if the field has them; a block below 0, and
+/// numbers next to 0; and the field's highest, whose sum reads back as negative.
+fn numbers(field: &Field, k: u8, m: u8) -> BTreeSet<i64> {
+    let (lowest, highest) = exactly_charged(field, k, m);
+    let of_field = highest_of(field);
+    let below = (lowest - 1).max(-of_field);
+    let ends = [below, lowest, highest, highest + 1];
     let others = [-(1 << m), -1, 0, 1, of_field];
-    let numbers = ends.into_iter().chain(others);
-    numbers.map(|a| a.max(-of_field)).collect()
+    ends.into_iter().chain(others).collect()
 }
