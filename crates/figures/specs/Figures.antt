@@ -1,5 +1,5 @@
--- The paper, "Figures to check": its P rows in one table, computed over the same definitions that the code meets. "The paper's figures for BLOCKS change
--- to these", says request 2.
+-- The paper, "Figures to check": its P rows in one table, computed over the same definitions that the code meets. The row of BLOCKS has the figures of
+-- request 2.
 -- Assumes nothing.
 use mathlib.Core.Path.{_≡_}
 use mathlib.Core.List.{List, [], _∷_, map}
@@ -62,7 +62,7 @@ wide = dealt large 42 long
 abbrev pub result : Setting → Step → ℕ
 result S s = value S (s .left)
 
--- a P row: what the definitions give, and what the paper prints, for BLOCKS request 2
+-- a P row: what the definitions give, and what is printed, for BLOCKS by request 2, else by the paper
 pub record Figure : Type 0 where
   pub computed : List ℕ
   pub printed : List ℕ

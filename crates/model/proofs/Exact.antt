@@ -1,4 +1,4 @@
--- What the plain interpreter's formulas are in ℤ, in every field of the table.
+-- What the plain interpreter's formulas are in ℤ, in every field of the table; and which numbers have the sum of BLOCKS in the range.
 -- Assumes nothing.
 use mathlib.Core.Path.{_≡_, ap, _∙_}
 use mathlib.Core.Logic.{_↔_}
@@ -54,24 +54,24 @@ module _ {p l K : ℕ} (F : Field p l K) where
   pub negative-read : (k x : ℕ) → 2 ≤ k → k ≤ K → x < p → T (inRange k (readBack p x)) → negative p k x ≡ one (ltZ (readBack p x) (pos 0))
   negative-read k x h hk l t = rw (code-read p x l) at (negative-code k (readBack p x) h hk t)
 
-  -- what is said of a signed number, of the value that codes it: its division, and the floor where it is 0 or more
+  -- for a value x that codes a number of the range: the division of that number, and where it is 0 or more, its floor
   pub division-of : (k m x : ℕ) (y : ℤ) → k ≤ K → m < k → code p y ≡ x → T (inRange k y) → Division y (2 ^ m) (readBack p (quot p k m x)) (rem p k m x)
   division-of k m x y hk hm e t = rw e at (division-code k m y hk hm (in-magnitude k y .0 t))
 
-  pub floor-of : (k m x s : ℕ) → k ≤ K → m < k → code p (pos s) ≡ x → T (inRange k (pos s)) → quot p k m x ≡ s / 2 ^ m
-  floor-of k m x s hk hm e t =
+  pub quot-of : (k m x s : ℕ) → k ≤ K → m < k → code p (pos s) ≡ x → T (inRange k (pos s)) → quot p k m x ≡ s / 2 ^ m
+  quot-of k m x s hk hm e t =
       let r : s < 2 ^ (k - 1) = in-magnitude k (pos s) .0 t in
       let f = twice-fits k (omega arith) hk in
       rw e at (quot-code k m (pos s) hk hm r) ∙ unfold code in mod-eq-of-lt {n = s / 2 ^ m} {m = p} (omega (arith, div-le-self s (2 ^ m)))
 
-  -- the ends of where BLOCKS is exact
-  pub charged-up : (k m a : ℕ) → a ≤ (p - 1) / 2 → T (inRange k (blocksSum p m a)) ↔ (a + 2 ^ m ≤ 2 ^ (k - 1))
-  charged-up k m a l =
+  -- which numbers have the sum of BLOCKS in the range
+  pub charges-up : (k m a : ℕ) → a ≤ (p - 1) / 2 → T (inRange k (blocksSum p m a)) ↔ (a + 2 ^ m ≤ 2 ^ (k - 1))
+  charges-up k m a l =
       let I : T (inRange k (pos (a + (2 ^ m - 1)))) ↔ (a + (2 ^ m - 1) < 2 ^ (k - 1)) = in-magnitude k (pos (a + (2 ^ m - 1))) in
       rw (reads-up p a l) (λ t. omega (arith, I .0 t, pow-pos m), λ r. I .1 (omega (arith, pow-pos m)))
 
-  pub charged-down : (k m n : ℕ) → m < k → n < (p - 1) / 2 → T (inRange k (blocksSum p m (p - suc n))) ↔ (suc n < 2 ^ (k - 1) + 2 ^ m)
-  charged-down k m n h l =
+  pub charges-down : (k m n : ℕ) → m < k → n < (p - 1) / 2 → T (inRange k (blocksSum p m (p - suc n))) ↔ (suc n < 2 ^ (k - 1) + 2 ^ m)
+  charges-down k m n h l =
       let e : readBack p (p - suc n) ≡ negsuc n = reads-down p (p - suc n) (omega (arith, F .modulus-is .odd)) (omega arith) ∙ ap negsuc (omega arith) in
       rw e (go (2 ^ m - 1) (decLt (2 ^ m - 1) (suc n)) (omega (arith, pow-pos m, pow-mono {i = m} {j = k - 1} (omega arith))) (omega (arith, pow-pos m)))
     where

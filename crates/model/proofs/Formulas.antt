@@ -18,7 +18,7 @@ use Rattle.model.proofs.Coding.{code-read}
 use Rattle.model.proofs.Signed.{code-add}
 use Rattle.model.proofs.Comparing.{less-is}
 use Rattle.model.proofs.Dividing.{begun-is}
-use Rattle.model.proofs.Exact.{twice-fits, negative-read, exceeds-code, division-of, floor-of, charged-up, charged-down}
+use Rattle.model.proofs.Exact.{twice-fits, negative-read, exceeds-code, division-of, quot-of, charges-up, charges-down}
 
 -- q is (a − r) times the inverse i of M: q times M and r are a
 undivided : {p : ℕ} (M i a r : ℕ) → 0 < p → a < p → mul p (M % p) i ≡ 1 → (mul p i (sub p a r) * M + r) % p ≡ a
@@ -61,7 +61,7 @@ module _ {p l K : ℕ} (F : Field p l K) where
       record {
         divides = divides k m (add p a c) l g i j (add-lt a c positive);
         exact = λ t. record { remainder = _; division = division-of F k m (add p a c) (readBack p a +ℤ pos c) g j e t };
-        begun = λ s q t. rw (floor-of F k m (add p a c) (s + c) g j (rw q at e) (rw q at t)) (begun-is (2 ^ m) s (pow-pos m));
+        begun = λ s q t. rw (quot-of F k m (add p a c) (s + c) g j (rw q at e) (rw q at t)) (begun-is (2 ^ m) s (pow-pos m));
       }
 
   pub field-exact : Exact p K
@@ -76,8 +76,8 @@ module _ {p l K : ℕ} (F : Field p l K) where
               exact = λ t. rw (code-read p v i, code-read p a h) at (exceeds-code F k (readBack p v) (readBack p a) l g t);
             };
         charges = charges;
-        charges-up = charged-up F;
-        charges-down = charged-down F;
+        charges-up = charges-up F;
+        charges-down = charges-down F;
         compares = λ v bs n h. record { exact = λ t. less-is p v bs (omega arith) (all-below 2 bs .0 t) n h; rule = refl };
       }
 

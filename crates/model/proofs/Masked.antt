@@ -24,7 +24,8 @@ use Rattle.model.proofs.Each.{each-take}
 use Rattle.model.proofs.Shared.{Shared, shared-plus, shared-minus, shared-times, shared-constant, shared-spelled}
 use Rattle.model.proofs.Determined.{Determined, d-multiply, d-mask, recount, Bounds, DeterminedComparison, comparison-determined}
 
--- A MOD masks a + 2^(k−1) and leaves the plain interpreter's remainder, and takes so many triples for its m. 2^m is below p for m up to K.
+-- A MOD masks a + 2^(k−1) and leaves the plain interpreter's remainder, and takes so many triples for its m. 2^m is below p for m up to K, so that
+-- BLOCKS can add 2^m − 1 as a constant.
 pub record DeterminedMod (S : Setting) (B K : ℕ) {A : Type 0} (Q : A → Type 0) (triples : ℕ → ℕ) (MOD : Remainder Row A) : Type 0 where
   pub power-lt : (m : ℕ) → m ≤ K → 2 ^ m < S .p
   pub determined : {xs : List ℕ} {n : ℕ} {vs : List ℕ} (k m : ℕ) → Ranges K k m → {a : ℕ} {x : Row} {go : Row → Tree Row A} → Shared S a x

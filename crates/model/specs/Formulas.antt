@@ -76,9 +76,9 @@ OneBegun = (M a z z′ : ℕ) → Begun M a z → Begun M a z′ → z ≡ z′
 abbrev pub blocksSum : ℕ → ℕ → ℕ → ℤ
 blocksSum p m a = readBack p a +ℤ pos (2 ^ m - 1)
 
--- BLOCKS leaves z of a: "TRUNC of a + 2^m − 1 with the same k and m", a sum modulo p. "Blocks are exact while" the sum of ℤ "lies in the k-bit range": z
--- read back is then its floor, and for a number of 0 or more z is how many blocks are begun. Where the sum of ℤ does not lie in the range, the sum modulo
--- p, read back, may: then z is TRUNC of that.
+-- BLOCKS leaves z of a: "TRUNC of a + 2^m − 1 with the same k and m", a sum modulo p. "Blocks are exact while" the sum in ℤ "lies in the k-bit range": z
+-- read back is then its floor, and for a number of 0 or more z is how many blocks are begun. Where the sum in ℤ does not lie in the range, the sum modulo
+-- p, read back, may: then z read back is the floor of that other number.
 pub record Charges (p k m a z : ℕ) : Type 0 where
   pub divides : Divides p k m (add p a (2 ^ m - 1)) z
   pub exact : T (inRange k (blocksSum p m a)) → FloorOf (blocksSum p m a) (2 ^ m) (readBack p z)
@@ -90,14 +90,15 @@ pub record Compares (p v : ℕ) (bs : List ℕ) (z : ℕ) : Type 0 where
   pub exact : T (allBelow 2 bs) → z ≡ one (ltb v (spell bs))
   pub rule : z ≡ less p v bs
 
--- The formulas of the plain interpreter, in a field p with largest k K and with operands in their ranges, are these.
+-- The formulas of the plain interpreter, in a field p with largest k K and with operands in their ranges, are these; and which numbers have the sum of BLOCKS
+-- in the k-bit range.
 pub record Exact (p K : ℕ) : Type 0 where
   pub remains : (k m a : ℕ) → 2 ≤ k → k ≤ K → 1 ≤ m → m < k → a < p → Remains p k m a (rem p k m a)
   pub divides : (k m a : ℕ) → 2 ≤ k → k ≤ K → 1 ≤ m → m < k → a < p → Divides p k m a (quot p k m a)
   pub signs : (k a : ℕ) → 2 ≤ k → k ≤ K → a < p → Signs p k a (negative p k a)
   pub exceeds-by : (k v a : ℕ) → 2 ≤ k → k ≤ K → v < p → a < p → Exceeds p k v a (exceeds p k v a)
   pub charges : (k m a : ℕ) → 2 ≤ k → k ≤ K → 1 ≤ m → m < k → a < p → Charges p k m a (charged p k m a)
-  -- where BLOCKS is exact: of numbers from 0 on up to 2^(k−1) − 2^m, and of those below 0, p − (n + 1) being −(n + 1), down to −2^(k−1) − 2^m + 1
+  -- from 0 on, those up to 2^(k−1) − 2^m; below 0, p − (n + 1) being −(n + 1), those down to −2^(k−1) − 2^m + 1
   pub charges-up : (k m a : ℕ) → a ≤ (p - 1) / 2 → T (inRange k (blocksSum p m a)) ↔ (a + 2 ^ m ≤ 2 ^ (k - 1))
   pub charges-down : (k m n : ℕ) → m < k → n < (p - 1) / 2 → T (inRange k (blocksSum p m (p - suc n))) ↔ (suc n < 2 ^ (k - 1) + 2 ^ m)
   pub compares : (v : ℕ) (bs : List ℕ) → 1 ≤ length bs → v < 2 ^ length bs → Compares p v bs (less p v bs)

@@ -47,7 +47,7 @@ pub fn low(c: Cut) -> u32
 }
 
 // What BLOCKS takes the floor of: a + 2^m − 1.
-pub fn blocks_sum(setting: Setting, m: u32, a: Row) -> Row
+pub fn sum_row(setting: Setting, m: u32, a: Row) -> Row
     requires { ⌜ Fitting setting × (m < 30) × (2 ^ m < setting .p) ⌝ }
     ensures { λ r. ⌜ r .shares ≡ Steps.plus (settingOf setting) (a .shares) (Steps.constant (settingOf setting) (2 ^ m - 1)) ⌝ }
 {
@@ -65,7 +65,7 @@ pub fn before(setting: Setting, c: Cut, a: Row) -> Row
         Cut::Trunc { .. } => a,
         Cut::Ltz { .. } => a,
         Cut::Over { v, .. } => rows::sub_rows(setting, rows::constant_row(setting, v), a),
-        Cut::Blocks { m, .. } => blocks_sum(setting, m, a),
+        Cut::Blocks { m, .. } => sum_row(setting, m, a),
     }
 }
 

@@ -1,4 +1,4 @@
-//! BLOCKS at the ends of what it charges exactly, around 0, and at the ends of the field.
+//! BLOCKS at the ends of what it charges exactly, around 0, and at the field's highest number.
 
 use std::collections::BTreeSet;
 

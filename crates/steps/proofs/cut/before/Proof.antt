@@ -4,11 +4,11 @@ use borrow.Author.Needs.{needs}
 use Rattle.steps.proofs.cut.before.Statement.{statement}
 use Rattle.steps.proofs.cut.before.Tie as tie
 
-blocks-sum-requires : tie.Need-blocks-sum-requires
-blocks-sum-requires c κs = rw (c .before .c2 .given .1) at (c .before .before .before .pre)
+sum-row-requires : tie.Need-sum-row-requires
+sum-row-requires c κs = rw (c .before .c2 .given .1) at (c .before .before .before .pre)
 
 pub before-spec : {M : Type 1} → statement M
 before-spec =
     tie.close
     (tie.spec (λ c. search needs) (λ c. search needs) (λ c. search needs) (λ c. search needs) (λ c κs. search needs) (λ c κs. search needs) (λ c. search needs)
-    blocks-sum-requires (λ c. search needs) (λ c. search needs) (λ c. search needs) (λ c. cc) (λ c. cc))
+    sum-row-requires (λ c. search needs) (λ c. search needs) (λ c. search needs) (λ c. cc) (λ c. cc))
