@@ -6,8 +6,8 @@ mod walk;
 use plain::{is_in_range, read_back, Plain};
 use reference::field::{Field, FIELDS};
 use reference::script::command::Command;
-use reference::sheets::{sheet_for, stored};
-use walk::found;
+use reference::sheets::sheet_for;
+use walk::{found, found_in_stored};
 
 /// BLOCKS of a signed number.
 #[derive(Clone, Copy, Debug)]
@@ -95,14 +95,9 @@ fn widths() -> Vec<(i64, u8, u8)> {
     ends.chain([(65521, 15, 6)]).collect()
 }
 
-fn stored_charges() -> Vec<Charge> {
-    let cases = stored::all();
-    cases.iter().flat_map(|case| found(case, charge)).collect()
-}
-
 #[test]
 fn stored_sheets_charge_each_kind_of_number() {
-    let charges = stored_charges();
+    let charges = found_in_stored(charge);
     for width in widths() {
         let with_width = charges.iter().filter(|it| (it.p, it.k, it.m) == width);
         for (name, is_of) in ENDS.into_iter().chain(OTHERS) {
@@ -115,7 +110,7 @@ fn stored_sheets_charge_each_kind_of_number() {
 /// below the range.
 #[test]
 fn stored_sheets_charge_numbers_whose_sum_wraps_into_the_range() {
-    let charges = stored_charges();
+    let charges = found_in_stored(charge);
     let wrapping: Vec<_> = widths()
         .into_iter()
         .filter(|&width| {

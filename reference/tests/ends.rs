@@ -6,8 +6,7 @@ mod walk;
 use plain::Plain;
 use reference::field::{Field, FIELDS};
 use reference::script::command::Command;
-use reference::sheets::stored;
-use walk::found;
+use walk::found_in_stored;
 
 /// The modulus, the command's name, k, m, and the number worked on, modulo p.
 type Run = (u32, &'static str, u8, u8, u64);
@@ -75,14 +74,9 @@ fn missing(number: usize, runs: &[Run]) -> Vec<String> {
     missing
 }
 
-fn stored_runs() -> Vec<Run> {
-    let cases = stored::all();
-    cases.iter().flat_map(|case| found(case, masked)).collect()
-}
-
 #[test]
 fn every_command_runs_at_the_ends() {
-    let runs = stored_runs();
+    let runs = found_in_stored(masked);
     let missing: Vec<String> = (0..4).flat_map(|number| missing(number, &runs)).collect();
     assert!(missing.is_empty(), "not run:\n{}", missing.join("\n"));
 }
@@ -90,7 +84,7 @@ fn every_command_runs_at_the_ends() {
 /// Both neighbours of a range stand in the largest field too, each with some of the commands.
 #[test]
 fn the_largest_field_runs_on_both_sides_of_each_range() {
-    let runs = stored_runs();
+    let runs = found_in_stored(masked);
     let p = FIELDS[3].modulus;
     for (k, m) in [(2, 1), (30, 1), (30, 29)] {
         let half = 1 << (k - 1);

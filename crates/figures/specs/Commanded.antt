@@ -1,5 +1,6 @@
--- The paper, "Figures to check", and for BLOCKS request 2: the P rows once more, each as a command that is run between LOAD and REVEAL. Those of field 0 are run from the
--- bytes of a sheet. Those of field 2 are run line by line on their rows: to read the 1,700 bytes of their sheets takes the checker too long.
+-- The paper, "Figures to check", and for BLOCKS request 2: the P rows once more, each as a command that is run between LOAD and REVEAL. Those of field 0
+-- are run from the bytes of a sheet. Those of field 2 are run line by line on their rows: to read the 1,700 bytes of their sheets takes the checker too
+-- long.
 -- Assumes nothing.
 use mathlib.Core.List.{List, [], _∷_, _++_}
 use Prim.Native.Nat.{ℕ, zero, suc}

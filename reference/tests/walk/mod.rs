@@ -6,6 +6,7 @@ use reference::run_case::Case;
 use reference::script;
 use reference::script::command::Command;
 use reference::sheet::Sheet;
+use reference::sheets::stored;
 
 /// What `look` finds at the commands that finish when the sheet is run.
 pub fn found<T>(case: &Case, look: impl Fn(&Field, &Plain, &Command) -> Option<T>) -> Vec<T> {
@@ -21,4 +22,10 @@ pub fn found<T>(case: &Case, look: impl Fn(&Field, &Plain, &Command) -> Option<T
         plain.perform(command);
     }
     found
+}
+
+/// The same of all stored sheets.
+pub fn found_in_stored<T>(look: impl Fn(&Field, &Plain, &Command) -> Option<T>) -> Vec<T> {
+    let cases = stored::all();
+    cases.iter().flat_map(|case| found(case, &look)).collect()
 }
