@@ -1,6 +1,6 @@
-/* How deep the stack goes in a run of each sheet named, in each small entry, and in an import: a call is made on a stack that was filled with one byte, and
- * the lowest byte that changed tells. Two fillings, so that a byte that happens to be the filling is seen. Exits with 1 if a call goes deeper
- * than JUNDRETHOL_STACK, or fails. */
+/* How deep the stack goes in a run of each sheet named and in turning it to its column form and back, in each small entry, and in an import: a call
+ * is made on a stack that was filled with one byte, and the lowest byte that changed tells. Two fillings, so that a byte that happens to be the
+ * filling is seen. Exits with 1 if a call goes deeper than JUNDRETHOL_STACK, or fails. */
 #define _GNU_SOURCE
 #include <stdio.h>
 #include <string.h>
@@ -23,6 +23,20 @@ static void run(void)
     top = (uintptr_t)__builtin_frame_address(0);
     jundrethol_run(sheet, sheet_length, record, JUNDRETHOL_RECORD_LENGTH, revealed, JUNDRETHOL_REVEALED_LENGTH, registers,
                    JUNDRETHOL_REGISTERS_LENGTH, marks, JUNDRETHOL_MARKS_LENGTH, counts, JUNDRETHOL_COUNTS_LENGTH);
+}
+
+static uint8_t columns[JUNDRETHOL_SHEET_LENGTH], back[JUNDRETHOL_SHEET_LENGTH];
+
+static void to_columns(void)
+{
+    top = (uintptr_t)__builtin_frame_address(0);
+    jundrethol_to_columns(sheet, sheet_length, columns, JUNDRETHOL_SHEET_LENGTH);
+}
+
+static void to_sheet(void)
+{
+    top = (uintptr_t)__builtin_frame_address(0);
+    jundrethol_to_sheet(columns, sheet_length, back, JUNDRETHOL_SHEET_LENGTH);
 }
 
 static uint32_t shares[7], coefficients[3] = {1, 2, 3}, value;
@@ -93,6 +107,7 @@ int main(int count, char **names)
         sheet_length = fread(sheet, 1, sizeof sheet, file);
         fclose(file);
         good &= fits(names[i], run);
+        good &= fits("  to columns", to_columns) & fits("  to sheet", to_sheet);
     }
     good &= fits("share", share) & fits("recover", recover) & fits("encode", encode) & fits("decode", decode)
             & fits("import", import);

@@ -1,4 +1,5 @@
-/* Jundrethol: Shamir shares, scripts that work on them, and calls from an exchange's list, for C on x86-64 Linux.
+/* Jundrethol: Shamir shares, scripts that work on them, calls from an exchange's list, and sheets turned so that each party's shares stand together,
+ * for C on x86-64 Linux.
  *
  * Link target/staticlib/libjundrethol.a, which `rt staticlib jundrethol` writes. Each function is proved to give exactly the answer that its
  * contract in crates/jundrethol/src/lib.rt fixes, to end, and not to fault, whatever the numbers, the bytes and the lengths are. Nothing is
@@ -30,19 +31,20 @@ extern "C" {
 #endif
 
 /* The version of this header and of the archive that is built beside it. While the first number stays, refusals and places in counts keep their
- * numbers, functions their parameters, and a function call that answers 0, 21 to 26 or 31 to 33 leaves the same values. A higher second number may add functions,
- * refusals, and counts after the last, and may run what was refused with 1 to 20. Where the first number grows, the second starts at 0. */
+ * numbers, functions their parameters, and a function call that answers 0, 21 to 26 or 31 to 33 leaves the same values. A higher second number
+ * may add functions, refusals, and counts after the last, and may accept what was refused with 1 to 20, but for 15: an output that is shorter
+ * than the input stays refused. Where the first number grows, the second starts at 0. */
 #define JUNDRETHOL_VERSION_MAJOR 2
-#define JUNDRETHOL_VERSION_MINOR 0
+#define JUNDRETHOL_VERSION_MINOR 1
 
 /* What every function answers: 0, or the first of the others that applies. */
 #define JUNDRETHOL_DONE 0
 
-/* The input is refused, and nothing is run. */
-#define JUNDRETHOL_NO_HEADER 1     /* the sheet has fewer than 11 bytes */
+/* The input is refused, or the output for it, and nothing is run or turned. */
+#define JUNDRETHOL_NO_HEADER 1     /* the sheet or column form has fewer than 11 bytes */
 #define JUNDRETHOL_BAD_FIELD 2     /* the field is over 3 */
 #define JUNDRETHOL_BAD_PARTIES 3   /* n is not from 3 to 7, t is below 1, or 2t + 1 is over n */
-#define JUNDRETHOL_BAD_LENGTH 4    /* a count is over its limit, or a list or the sheet has the wrong length */
+#define JUNDRETHOL_BAD_LENGTH 4    /* a count is over its limit, or a list, the sheet or the column form has the wrong length */
 #define JUNDRETHOL_NOT_BELOW_P 5   /* a secret, coefficient, share or field value is not below p */
 #define JUNDRETHOL_NO_SHARING 6    /* a row is no sharing */
 #define JUNDRETHOL_BAD_MASK 7      /* a mask is not well formed */
@@ -50,6 +52,7 @@ extern "C" {
 #define JUNDRETHOL_BAD_COMMAND 9   /* a command byte is over 0x0D */
 #define JUNDRETHOL_BAD_END 10      /* operands are cut off, END is missing, or bytes follow it */
 #define JUNDRETHOL_OUT_OF_RANGE 11 /* an operand, k or a signed number is out of range */
+#define JUNDRETHOL_OUTPUT_SHORT 15 /* the output is shorter than the input */
 
 /* A command is refused because of the state: those before it stand, and it changes nothing. */
 #define JUNDRETHOL_UNSET 21           /* a register that is read is unset */
@@ -64,7 +67,7 @@ extern "C" {
 #define JUNDRETHOL_BAD_TIME 32     /* a time is malformed, or comes before the one that it must follow */
 #define JUNDRETHOL_SECONDS_FULL 33 /* the line is good, and there is no place for its call */
 
-/* The bytes of the largest sheet: a longer one is refused. */
+/* The bytes of the largest sheet, and of the largest column form: a longer one is refused. */
 #define JUNDRETHOL_SHEET_LENGTH 59723
 
 /* No run outgrows a record and a revealed list of these lengths. */
@@ -154,6 +157,29 @@ uint32_t jundrethol_import(
     uint64_t *calls,
     const uint8_t *list, size_t list_length,
     uint32_t *seconds, size_t seconds_length);
+
+/* Turns a sheet to its column form, in which each party's shares stand together, so that it can be cut into the parties' parts.
+ *
+ * sheet    is header, script and rows. Only header and length are looked at: the script may be any bytes, and the shares any numbers.
+ * columns  gets the column form, which is as long as the sheet: the same header and script, then party 1's part, party 2's, and so on. A part
+ *          has the party's share of every row in the sheet's order, 4 bytes for each row: one row for each input, 4, 8, 16 or 31 for each mask
+ *          (in field 0, 1, 2 or 3), 3 for each triple. All parts are equally long: (sheet_length - 11 - script length) / n bytes. Party j's
+ *          part begins at columns[11 + script length + (j - 1) times that length]. Past the column form columns is unchanged.
+ *
+ * Input and output may not overlap: nothing is turned in place.
+ *
+ * Answers 0, or a refusal 1, 2, 3 or 4 of the sheet, or 15: columns_length is below sheet_length. A refusal writes nothing.
+ */
+uint32_t jundrethol_to_columns(const uint8_t *sheet, size_t sheet_length, uint8_t *columns, size_t columns_length);
+
+/* Turns a column form back to its sheet. Of the column form, too, only header and length are looked at. An input that is not refused is the
+ * same bytes again after both functions, in either order. Past the sheet the output is unchanged.
+ *
+ * Input and output may not overlap: nothing is turned in place.
+ *
+ * Answers 0, or a refusal 1, 2, 3 or 4 of the column form, or 15: sheet_length is below columns_length. A refusal writes nothing.
+ */
+uint32_t jundrethol_to_sheet(const uint8_t *columns, size_t columns_length, uint8_t *sheet, size_t sheet_length);
 
 #ifdef __cplusplus
 }

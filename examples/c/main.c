@@ -1,13 +1,14 @@
-/* The paper's MUL sheet run through the C ABI, a secret shared, recovered, encoded and decoded, and calls taken from an exchange's list. Exits
- * with 1 if an answer is wrong. */
+/* The paper's MUL sheet run through the C ABI, a secret shared, recovered, encoded and decoded, calls taken from an exchange's list, and the sheet
+ * cut into the parties' parts and put together again. Exits with 1 if an answer is wrong. */
 #include <inttypes.h>
 #include <stdio.h>
 #include <stdlib.h>
+#include <string.h>
 
 #include "jundrethol.h"
 
-#if JUNDRETHOL_VERSION_MAJOR != 2
-#error "written for version 2 of the library"
+#if JUNDRETHOL_VERSION_MAJOR != 2 || JUNDRETHOL_VERSION_MINOR < 1
+#error "written for version 2 of the library, from 2.1 on"
 #endif
 
 #define COUNT(list) (sizeof(list) / sizeof((list)[0]))
@@ -124,11 +125,86 @@ static void import_calls(void)
     expect(jundrethol_import(&calls, bytes, 20, seconds, COUNT(seconds)) == JUNDRETHOL_BAD_LINE && calls == 0, "a quote is not closed");
 }
 
+/* Room for the sheet and for what is past it, and for the most parties that a sheet can have. */
+#define ROOM 128
+#define MOST_PARTIES 7
+
+/* Every place gets another byte, so that a byte from another place is seen. */
+static void fill(uint8_t *output)
+{
+    for (size_t i = 0; i < ROOM; i++)
+        output[i] = (uint8_t)(100 + i);
+}
+
+/* Header and script with the parts of a column form, each in a list of its own. */
+struct pieces {
+    size_t front_length, parties, part_length;
+    uint8_t front[ROOM], parts[MOST_PARTIES][ROOM];
+};
+
+static void print_part(size_t party, size_t start, const uint8_t *part, size_t length)
+{
+    printf("part %zu from %zu bytes %zu shares", party, start, length);
+    for (size_t i = 0; i < length; i += 4)
+        printf(" %" PRIu32, part[i] | (uint32_t)part[i + 1] << 8 | (uint32_t)part[i + 2] << 16 | (uint32_t)part[i + 3] << 24);
+    printf("\n");
+}
+
+/* Cuts a column form, of which nothing but the header and the length is known. */
+static void cut(const uint8_t *columns, size_t length, struct pieces *pieces)
+{
+    pieces->parties = columns[1];
+    pieces->front_length = 11 + (columns[9] | (size_t)columns[10] << 8);
+    pieces->part_length = (length - pieces->front_length) / pieces->parties;
+    memcpy(pieces->front, columns, pieces->front_length);
+    for (size_t party = 1; party <= pieces->parties; party++) {
+        size_t start = pieces->front_length + (party - 1) * pieces->part_length;
+        uint8_t *part = pieces->parts[party - 1];
+        memcpy(part, columns + start, pieces->part_length);
+        print_part(party, start, part, pieces->part_length);
+    }
+}
+
+/* Header and script, then the parts in order, are the column form again. */
+static size_t join(const struct pieces *pieces, uint8_t *columns)
+{
+    size_t length = pieces->front_length;
+    memcpy(columns, pieces->front, length);
+    for (size_t i = 0; i < pieces->parties; i++, length += pieces->part_length)
+        memcpy(columns + length, pieces->parts[i], pieces->part_length);
+    return length;
+}
+
+static void cut_and_join(void)
+{
+    static uint8_t sheet[ROOM], columns[ROOM], joined[ROOM], back[ROOM], before[ROOM], expected[ROOM];
+    static struct pieces pieces;
+    size_t length = make_sheet(sheet);
+    fill(before);
+    fill(columns);
+    expect(jundrethol_to_columns(sheet, length, columns, ROOM) == JUNDRETHOL_DONE, "the sheet has a column form");
+    expect(memcmp(columns + length, before + length, ROOM - length) == 0, "a longer output keeps its tail");
+    cut(columns, length, &pieces);
+    size_t joined_length = join(&pieces, joined);
+    fill(back);
+    expect(jundrethol_to_sheet(joined, joined_length, back, ROOM) == JUNDRETHOL_DONE, "header, script and parts are a column form");
+    /* The whole output: the sheet, and past it the bytes from before. */
+    fill(expected);
+    memcpy(expected, sheet, length);
+    int same = memcmp(back, expected, ROOM) == 0;
+    printf("put together %zu bytes %s\n", joined_length, same ? "same" : "other");
+    expect(same, "the sheet is the same again, and the tail is kept");
+    fill(back);
+    expect(jundrethol_to_sheet(joined, joined_length, back, length - 1) == JUNDRETHOL_OUTPUT_SHORT, "an output that is too short is refused");
+    expect(memcmp(back, before, ROOM) == 0, "a refusal writes nothing");
+}
+
 int main(void)
 {
     run_sheet();
     share_and_recover();
     encode_and_decode();
     import_calls();
+    cut_and_join();
     return 0;
 }

@@ -43,4 +43,8 @@ extern "C" {
     pub fn jundrethol_decode(field: u32, value: u32, number: *mut i64) -> u32;
 
     pub fn jundrethol_import(calls: *mut u64, list: *const u8, list_length: usize, seconds: *mut u32, seconds_length: usize) -> u32;
+
+    pub fn jundrethol_to_columns(sheet: *const u8, sheet_length: usize, columns: *mut u8, columns_length: usize) -> u32;
+
+    pub fn jundrethol_to_sheet(columns: *const u8, columns_length: usize, sheet: *mut u8, sheet_length: usize) -> u32;
 }

@@ -88,3 +88,13 @@ pub fn import(list: &[u8], seconds: &mut [u32]) -> (u32, u64) {
     let number = unsafe { c::jundrethol_import(&mut calls, list.as_ptr(), list.len(), seconds.as_mut_ptr(), seconds.len()) };
     (number, calls)
 }
+
+/// The column form of a sheet. A longer output keeps its tail.
+pub fn to_columns(sheet: &[u8], columns: &mut [u8]) -> Result<(), u32> {
+    answer(unsafe { c::jundrethol_to_columns(sheet.as_ptr(), sheet.len(), columns.as_mut_ptr(), columns.len()) }, ())
+}
+
+/// The sheet that has this column form. A longer output keeps its tail.
+pub fn to_sheet(columns: &[u8], sheet: &mut [u8]) -> Result<(), u32> {
+    answer(unsafe { c::jundrethol_to_sheet(columns.as_ptr(), columns.len(), sheet.as_mut_ptr(), sheet.len()) }, ())
+}

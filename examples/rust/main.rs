@@ -1,5 +1,5 @@
-//! The paper's MUL sheet run through the C ABI, a secret shared, recovered, encoded and decoded, and calls taken from an exchange's list. Exits
-//! with 1 if an answer is wrong.
+//! The paper's MUL sheet run through the C ABI, a secret shared, recovered, encoded and decoded, calls taken from an exchange's list, and the sheet
+//! cut into the parties' parts and put together again. Exits with 1 if an answer is wrong.
 mod jundrethol;
 
 use std::process::exit;
@@ -80,9 +80,64 @@ fn import_calls() {
     expect(jundrethol::import(&LIST[..20], &mut seconds) == (31, 0), "a quote is not closed");
 }
 
+/// Header and script with the parts of a column form, each in a list of its own.
+struct Pieces {
+    front: Vec<u8>,
+    parts: Vec<Vec<u8>>,
+}
+
+fn print_part(party: usize, start: usize, part: &[u8]) {
+    let shares = part.chunks_exact(4).map(|share| u32::from_le_bytes([share[0], share[1], share[2], share[3]]));
+    let shares: String = shares.map(|share| format!(" {share}")).collect();
+    println!("part {party} from {start} bytes {} shares{shares}", part.len());
+}
+
+/// Cuts a column form, of which nothing but the header and the length is known.
+fn cut(columns: &[u8]) -> Pieces {
+    let parties = usize::from(columns[1]);
+    let front = 11 + usize::from(u16::from_le_bytes([columns[9], columns[10]]));
+    let length = (columns.len() - front) / parties;
+    let mut parts = Vec::new();
+    for party in 1..=parties {
+        let start = front + (party - 1) * length;
+        let part = columns[start..start + length].to_vec();
+        print_part(party, start, &part);
+        parts.push(part);
+    }
+    Pieces { front: columns[..front].to_vec(), parts }
+}
+
+/// Header and script, then the parts in order, are the column form again.
+fn join(pieces: &Pieces) -> Vec<u8> {
+    [pieces.front.clone(), pieces.parts.concat()].concat()
+}
+
+/// An output of which every place has another byte, so that a byte from another place is seen.
+fn filled() -> Vec<u8> {
+    (100..228).collect()
+}
+
+fn cut_and_join() {
+    let sheet = make_sheet();
+    let mut columns = filled();
+    expect(jundrethol::to_columns(&sheet, &mut columns) == Ok(()), "the sheet has a column form");
+    expect(columns[sheet.len()..] == filled()[sheet.len()..], "a longer output keeps its tail");
+    let joined = join(&cut(&columns[..sheet.len()]));
+    let mut back = filled();
+    expect(jundrethol::to_sheet(&joined, &mut back) == Ok(()), "header, script and parts are a column form");
+    // The whole output: the sheet, and past it the bytes from before.
+    let expected = [&sheet, &filled()[sheet.len()..]].concat();
+    println!("put together {} bytes {}", joined.len(), if back == expected { "same" } else { "other" });
+    expect(back == expected, "the sheet is the same again, and the tail is kept");
+    let mut short = filled();
+    expect(jundrethol::to_sheet(&joined, &mut short[..sheet.len() - 1]) == Err(15), "an output that is too short is refused");
+    expect(short == filled(), "a refusal writes nothing");
+}
+
 fn main() {
     run_sheet();
     share_and_recover();
     encode_and_decode();
     import_calls();
+    cut_and_join();
 }

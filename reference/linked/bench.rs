@@ -1,7 +1,7 @@
 //! Measures the time of the proved library over that of the reference, in one process.
 //!
-//! `reference/link` builds it. For each sheet, and for a list of calls, both sides do their job once
-//! and are held to each other. Then come rounds: in each, either side does the job so often that it
+//! `reference/link` builds it. For each sheet, for a list of calls, and for the column form of a sheet
+//! there and back, both sides do their job once and are held to each other. Then come rounds: in each, either side does the job so often that it
 //! takes about half a millisecond or once if that is longer, and the side that starts changes from
 //! round to round. A round's time is that of one job on average. On a busy machine the best round
 //! tells most: a round is slowed by what else runs.
@@ -14,7 +14,8 @@ use std::hint::black_box;
 use std::process::ExitCode;
 
 use reference::calls;
-use reference::compare::{Imported, Lengths, Ran};
+use reference::columns::Way;
+use reference::compare::{Imported, Lengths, Ran, Turned};
 use reference::run::run;
 use reference::sheets::bench;
 use reference::table::{RECORD, REVEALED};
@@ -23,11 +24,12 @@ use rounds::{measure, Sides};
 const USAGE: &str = "\
 usage: bench [ROUNDS]
 
-Prints for the run of three sheets and for the import of a list of 10,000 lines the time of the
-proved library and of the reference, as median and as best of ROUNDS rounds (2001 if left out, at
-least 1), and the ratio of the two: below 1 the library is faster. A third line has the median of
-the rounds' own ratios. Both sides run in the same process, in turn, after their answers and buffers
-were found equal. Exits with 1 if they are not, with 2 if the arguments are wrong.
+Prints for the run of three sheets, for the import of a list of 10,000 lines, and for turning the
+largest sheet to its column form and back the time of the proved library and of the reference, as
+median and as best of ROUNDS rounds (2001 if left out, at least 1), and the ratio of the two: below
+1 the library is faster. A third line has the median of the rounds' own ratios. Both sides run in
+the same process, in turn, after their answers and buffers were found equal. Exits with 1 if they
+are not, with 2 if the arguments are wrong.
 
 Build it with bash reference/link, after rt staticlib jundrethol.";
 
@@ -110,6 +112,49 @@ impl Sides for Imports<'_> {
     }
 }
 
+/// A sheet to its column form, and that to the sheet, with outputs that they fill.
+struct Turns<'a> {
+    sheet: &'a [u8],
+    library: [Turned; 2],
+    reference: [Turned; 2],
+}
+
+impl Turns<'_> {
+    fn new(sheet: &[u8]) -> Turns<'_> {
+        let before = Turned::before(sheet.len());
+        let both = [before.clone(), before];
+        Turns {
+            sheet,
+            library: both.clone(),
+            reference: both,
+        }
+    }
+}
+
+impl Sides for Turns<'_> {
+    fn agree(&mut self) -> Result<(), String> {
+        self.by_library();
+        self.by_reference();
+        let mut sides = self.reference.iter().zip(&self.library);
+        let difference = sides.find_map(|(reference, library)| reference.difference(library));
+        difference.map_or(Ok(()), Err)
+    }
+
+    fn by_library(&mut self) {
+        let [columns, back] = &mut self.library;
+        library::turn(columns, Way::ToColumns, black_box(self.sheet));
+        library::turn(back, Way::ToSheet, black_box(&columns.output));
+        black_box(&mut self.library);
+    }
+
+    fn by_reference(&mut self) {
+        let [columns, back] = &mut self.reference;
+        columns.by_reference(Way::ToColumns, black_box(self.sheet));
+        back.by_reference(Way::ToSheet, black_box(&columns.output));
+        black_box(&mut self.reference);
+    }
+}
+
 fn measure_all(rounds: usize) -> Result<(), String> {
     let sheets = [
         ("largest sheet", bench::largest()),
@@ -120,7 +165,9 @@ fn measure_all(rounds: usize) -> Result<(), String> {
         measure(name, Runs::new(&sheet), rounds)?;
     }
     let list = calls::bench::list(LINES);
-    measure("list of 10,000 calls", Imports::new(&list), rounds)
+    measure("list of 10,000 calls", Imports::new(&list), rounds)?;
+    let sheet = bench::largest();
+    measure("largest sheet there and back", Turns::new(&sheet), rounds)
 }
 
 /// The number of rounds, or which word is wrong.

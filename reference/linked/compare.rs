@@ -1,11 +1,14 @@
-//! Holds the proved library to the reference: the stored sheets, entries and lists, then drawn ones.
+//! Holds the proved library to the reference: the stored sheets, entries, lists and inputs of the column
+//! form, then drawn ones.
 //!
 //! `reference/link` builds it. Of a run are compared number, place and counts, marks, register
 //! cells, and both buffers to their last number; of a small entry (share, recover, encode, decode)
 //! number, value and the lent list; of the import of a list of calls number, how many calls were
-//! written, and the buffer to its last number. All that is written to is filled before with numbers
-//! that are never written, so that a number too many, too few or left over is seen. The lists for
-//! registers, marks and counts are at times too short or too long.
+//! written, and the buffer to its last number; of the column form, there and back, number and the
+//! output to its last byte. Lists of numbers are filled before with numbers that are never written, so
+//! that a number too many, too few or left over is seen. Every byte can be written to an output of the
+//! column form, so it is filled with bytes that change from place to place. The lists for registers,
+//! marks and counts are at times too short or too long.
 
 mod entries;
 mod library;
@@ -19,7 +22,9 @@ use reference::calls::drawn::list_for;
 use reference::case::Case;
 use reference::cases::generator::Generator;
 use reference::cases::{self, case_for};
-use reference::compare::{Entered, Imported, Lengths, Ran};
+use reference::columns;
+use reference::columns::drawn::turn_for;
+use reference::compare::{Entered, Imported, Lengths, Ran, Turned};
 use reference::run_case;
 use reference::sheets::{self, sheet_for};
 
@@ -28,9 +33,9 @@ usage: compare SEED COUNT [FIRST]
 
 Compares the proved library with the reference: all that is stored, COUNT sheets drawn from SEED
 and the indices FIRST, FIRST + 1, ... (FIRST is 0 if left out), and for each of them 4 calls of
-small entries (share, recover, encode, decode) and the import of a list of calls. The last line
-tells how many were compared and how many differ. Exits with 1 if any does, with 2 if the arguments
-are wrong.
+small entries (share, recover, encode, decode), the import of a list of calls, and an input turned to
+the column form or to the sheet. The last line tells how many were compared and how many differ.
+Exits with 1 if any does, with 2 if the arguments are wrong.
 
 Build it with bash reference/link, after rt staticlib jundrethol.";
 
@@ -40,7 +45,7 @@ const ENTRIES: u64 = 4;
 /// How many differences are listed.
 const LISTED: usize = 5;
 
-/// How many bytes of a sheet or a list are listed.
+/// How many bytes of a sheet, a list or an input are listed.
 const SHOWN: usize = 400;
 
 /// Apart from the sheet's own sequence, so that one does not decide the other.
@@ -54,6 +59,7 @@ struct Tally {
     runs: Numbers,
     entries: u64,
     imports: Numbers,
+    turns: Numbers,
     differing: usize,
 }
 
@@ -100,6 +106,23 @@ impl Tally {
         }
     }
 
+    fn turn(&mut self, name: &str, case: &columns::case::Case) {
+        let mut reference = Turned::before(case.lent);
+        let mut library = reference.clone();
+        reference.by_reference(case.way, &case.input);
+        library::turn(&mut library, case.way, &case.input);
+        *self.turns.entry(reference.number).or_default() += 1;
+        if let Some(difference) = reference.difference(&library) {
+            let (way, lent) = (case.way, case.lent);
+            let shown = &case.input[..case.input.len().min(SHOWN)];
+            let length = case.input.len();
+            self.differs(format!(
+                "{name}: {difference}\n  {way:?} output {lent}\n  \
+                 input of {length} bytes: {shown:?}"
+            ));
+        }
+    }
+
     fn differs(&mut self, lines: String) {
         if self.differing < LISTED {
             println!("{lines}");
@@ -117,6 +140,9 @@ impl Tally {
         for (place, case) in calls::stored::all().iter().enumerate() {
             self.import(&format!("stored list {place}"), case);
         }
+        for (place, case) in columns::stored::all().iter().enumerate() {
+            self.turn(&format!("stored input {place}"), case);
+        }
     }
 
     fn drawn(&mut self, seed: u64, index: u64) {
@@ -128,20 +154,24 @@ impl Tally {
             self.entry(&format!("entry {seed} {index}"), &case_for(seed, index));
         }
         self.import(&format!("list {seed} {index}"), &list_for(seed, index));
+        self.turn(&format!("input {seed} {index}"), &turn_for(seed, index));
     }
 
     fn tell(&self) {
         println!("runs by number: {}", told(&self.runs));
         println!("lists by number: {}", told(&self.imports));
-        let (runs, imports) = (self.runs.values(), self.imports.values());
+        println!("turned by number: {}", told(&self.turns));
+        let [runs, imports, turns] = [&self.runs, &self.imports, &self.turns].map(total);
         println!(
-            "{} runs of sheets, {} calls of small entries and {} imports of lists compared, {} differ",
-            runs.sum::<u64>(),
-            self.entries,
-            imports.sum::<u64>(),
-            self.differing
+            "{runs} runs of sheets, {} calls of small entries, {imports} imports of lists and {turns} \
+             inputs turned compared, {} differ",
+            self.entries, self.differing
         );
     }
+}
+
+fn total(numbers: &Numbers) -> u64 {
+    numbers.values().sum()
 }
 
 fn told(numbers: &Numbers) -> String {

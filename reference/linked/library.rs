@@ -1,6 +1,7 @@
-//! The proved library's run and import, told like those of the reference.
+//! The proved library's run, import and column form, told like those of the reference.
 
-use reference::compare::{Imported, Ran};
+use reference::columns::Way;
+use reference::compare::{Imported, Ran, Turned};
 
 /// The example's functions, of which compare and bench call some.
 #[allow(dead_code)]
@@ -25,4 +26,13 @@ pub fn run(ran: &mut Ran, sheet: &[u8]) {
 /// Imports the list.
 pub fn import(imported: &mut Imported, list: &[u8]) {
     (imported.number, imported.calls) = jundrethol::import(list, &mut imported.seconds);
+}
+
+/// Turns the input.
+pub fn turn(turned: &mut Turned, way: Way, input: &[u8]) {
+    let turn = match way {
+        Way::ToColumns => jundrethol::to_columns,
+        Way::ToSheet => jundrethol::to_sheet,
+    };
+    turned.number = turn(input, &mut turned.output).err().unwrap_or(0);
 }

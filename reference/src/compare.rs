@@ -1,5 +1,9 @@
 //! What a call leaves in everything that its caller lends, and where two calls differ.
 
+mod turned;
+
+pub use turned::Turned;
+
 use std::fmt::Display;
 
 use crate::calls;

@@ -1,9 +1,11 @@
 //! Computes directly from the definitions what the proved library computes: sharing, recovery,
-//! signed coding, the steps, the run of a whole sheet, and the import of a list of calls.
+//! signed coding, the steps, the run of a whole sheet, the import of a list of calls, and the column
+//! form of a sheet.
 
 pub mod calls;
 pub mod case;
 pub mod cases;
+pub mod columns;
 pub mod compare;
 pub mod dealer;
 pub mod field;

@@ -4,7 +4,7 @@
 use std::io::{self, Read, Write};
 use std::process::ExitCode;
 
-use reference::{calls, case, cases, line, model_cases, run_case, sheets, steps, table};
+use reference::{calls, case, cases, columns, line, model_cases, run_case, sheets, steps, table};
 
 const USAGE: &str = "usage: reference WORD [NAME]    (reference --help says what each word does)";
 
@@ -22,6 +22,8 @@ run-cases         writes the stored sheets, each with the lengths of its lent bu
 run-answers       reads such sheets and writes all that each run leaves
 call-cases        writes the stored lists of calls, each with the length of its lent buffer
 call-answers      reads such lists and writes all that each import leaves
+column-cases      writes the stored inputs of the column form, each with its way and its output's length
+column-answers    reads such inputs and writes all that turning each leaves
 model-cases NAME  writes one of the model's tables of cases; the names are TABLES
 table             reads a sheet and writes the lines of its run
 calls             reads a list of calls and writes the seconds of each, and the end of the import
@@ -50,6 +52,8 @@ fn main() -> ExitCode {
         ["run-answers"] => run_answers(),
         ["call-cases"] => write_out(&all_bytes(&calls::stored::all(), |case| case.to_bytes())),
         ["call-answers"] => call_answers(),
+        ["column-cases"] => write_out(&all_bytes(&columns::stored::all(), |case| case.to_bytes())),
+        ["column-answers"] => column_answers(),
         ["model-cases", name] => model_table(name),
         ["table"] => read_in().and_then(|sheet| write_out(table::lines(&sheet).as_bytes())),
         ["calls"] => read_in().and_then(|list| write_out(calls::case::printed(&list).as_bytes())),
@@ -65,6 +69,11 @@ fn main() -> ExitCode {
         }
         _ => return refuse(&format!("not understood: {}", words.join(" "))),
     };
+    ended(outcome)
+}
+
+/// What to exit with after the work.
+fn ended(outcome: Result<(), String>) -> ExitCode {
     match outcome {
         Ok(()) => ExitCode::SUCCESS,
         Err(message) => {
@@ -120,6 +129,13 @@ fn run_answers() -> Result<(), String> {
 fn call_answers() -> Result<(), String> {
     let cases = calls::case::read_all(&read_in()?)?;
     let lines: String = cases.iter().map(calls::case::lines).collect();
+    write_out(lines.as_bytes())
+}
+
+/// Writes nothing unless every case can be read.
+fn column_answers() -> Result<(), String> {
+    let cases = columns::case::read_all(&read_in()?)?;
+    let lines: String = cases.iter().map(columns::case::lines).collect();
     write_out(lines.as_bytes())
 }
 

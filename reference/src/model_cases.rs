@@ -3,16 +3,18 @@
 use crate::calls::held as lists;
 use crate::case::Case;
 use crate::cases::held as calls;
+use crate::columns::{held as turns, Way};
 use crate::compare::Entered;
 use crate::sheets::held::{self as sheets, Held, Left};
 
-pub const NAMES: [&str; 6] = [
+pub const NAMES: [&str; 7] = [
     "SheetCases",
     "ScriptCases",
     "RunCases",
     "MaskCases",
     "EntryCases",
     "CallCases",
+    "ColumnCases",
 ];
 
 /// No line of a table is longer, but for a long comment.
@@ -60,14 +62,24 @@ pub fn text(name: &str) -> Option<String> {
             ("CallCase", "callCases"),
             lists::all().iter().map(list_row).collect(),
         )),
+        "ColumnCases" => Some(column_table()),
         _ => None,
     }
 }
 
+fn column_table() -> String {
+    file(
+        "Request 3, \"One firm's shares together\": short inputs, and what turning them over and back leaves.",
+        ("Entry", "columnCases"),
+        turns::all().iter().map(turn_row).collect(),
+    )
+}
+
 fn file(subject: &str, (kind, name): (&str, &str), rows: Vec<Row>) -> String {
     let body = body(rows);
+    let code = without_comments(&body);
     let used = |words: &[&'static str]| -> String {
-        let used = words.iter().filter(|&&word| has_word(&body, word));
+        let used = words.iter().filter(|&&word| has_word(&code, word));
         used.map(|word| format!(", {word}")).collect()
     };
     let mut text = format!(
@@ -75,13 +87,16 @@ fn file(subject: &str, (kind, name): (&str, &str), rows: Vec<Row>) -> String {
          -- The reference writes this table (reference model-cases).\n\
          -- Assumes nothing.\n\
          use mathlib.Core.List.{{List, [], _∷_{}}}\n",
-        if has_word(&body, "++") { ", _++_" } else { "" }
+        if has_word(&code, "++") { ", _++_" } else { "" }
     );
-    if has_word(&body, "pos") {
+    if has_word(&code, "pos") {
         text += &format!("use lib.IntN.{{pos{}}}\n", used(&["negℤ"]));
     }
-    if has_word(&body, "replicate") {
+    if has_word(&code, "replicate") {
         text += "use lib.ListN.{replicate}\n";
+    }
+    if has_word(&code, "from") {
+        text += "use Rattle.algebra.specs.Lists.{from}\n";
     }
     let forms = used(&[
         "ran",
@@ -92,9 +107,16 @@ fn file(subject: &str, (kind, name): (&str, &str), rows: Vec<Row>) -> String {
         "encoded",
         "decoded",
         "took",
+        "asColumns",
+        "asSheet",
     ]);
     text += &format!("use Rattle.model.specs.CaseForms.{{{kind}{forms}}}\n\n");
     text + &format!("unfoldable pub {name} : List {kind}\n{name} =\n{body}    ∷ []\n")
+}
+
+fn without_comments(body: &str) -> String {
+    let is_code = |line: &&str| !line.trim_start().starts_with("--");
+    body.split_inclusive('\n').filter(is_code).collect()
 }
 
 fn has_word(text: &str, word: &str) -> bool {
@@ -239,6 +261,32 @@ fn shown(held: &lists::Held) -> String {
     format!("{}: {text}", held.says)
 }
 
+/// The way and the input's bytes; the length of the output, the number, and the whole output after the call.
+fn turn_row(held: &turns::Held) -> Row {
+    let left = held.left();
+    let (lent, number) = (held.case.lent, left.number);
+    let (input, output) = (list(&held.case.input), output(&left.output));
+    let way = match held.case.way {
+        Way::ToColumns => "asColumns",
+        Way::ToSheet => "asSheet",
+    };
+    let row = vec![
+        format!("{way} {input}"),
+        format!("{lent} {number} {output}"),
+    ];
+    (held.says.clone(), row)
+}
+
+/// A long end that is as it was before is counted.
+fn output(numbers: &[u16]) -> String {
+    let before: Vec<u16> = (turns::BEFORE..).take(numbers.len()).collect();
+    let pairs = numbers.iter().zip(&before).rev();
+    match pairs.take_while(|(left, before)| left == before).count() {
+        left if left < RUN => list(numbers),
+        left => format!("({})", chained(numbers, left)),
+    }
+}
+
 /// The call, and what it answers. Encode and decode leave no list, and share has no value.
 fn entry(call: &Case) -> String {
     let entered = Entered::by_reference(call);
@@ -280,27 +328,33 @@ fn list<T: Copy + PartialEq + std::fmt::Display>(numbers: &[T]) -> String {
     if numbers.is_empty() {
         return String::from("[]");
     }
-    format!("({})", chained(numbers))
+    format!("({})", chained(numbers, 0))
 }
 
-/// The numbers one by one, and long runs of one number with replicate.
-fn chained<T: Copy + PartialEq + std::fmt::Display>(numbers: &[T]) -> String {
+/// The numbers one by one, long runs of one number with replicate, and with from so many at the end,
+/// which count up.
+fn chained<T: Copy + PartialEq + std::fmt::Display>(numbers: &[T], counted: usize) -> String {
     let mut text = String::new();
     let mut rest = numbers;
     let mut open = 0;
     while let Some(&first) = rest.first() {
-        let run = rest.iter().take_while(|&&number| number == first).count();
-        if run < RUN {
-            text += &format!("{first} ∷ ");
-            rest = &rest[1..];
-            continue;
-        }
+        let single = &rest[..rest.len() - counted];
+        let run = single.iter().take_while(|&&number| number == first).count();
+        let (part, length) = match run {
+            0 => (format!("from {first} {counted}"), counted),
+            RUN.. => (format!("replicate {run} {first}"), run),
+            _ => {
+                text += &format!("{first} ∷ ");
+                rest = &rest[1..];
+                continue;
+            }
+        };
         if !text.is_empty() {
             text += "(";
             open += 1;
         }
-        text += &format!("replicate {run} {first} ++ ");
-        rest = &rest[run..];
+        text += &format!("{part} ++ ");
+        rest = &rest[length..];
     }
     let text = match text.strip_suffix(" ++ ") {
         Some(text) => String::from(text),
@@ -326,6 +380,21 @@ mod tests {
     }
 
     #[test]
+    fn an_end_as_before_is_counted() {
+        let before = |from: u16, to: u16| (from..to).collect::<Vec<_>>();
+        assert_eq!(output(&[]), "[]");
+        assert_eq!(output(&before(100, 103)), "(100 ∷ 101 ∷ 102 ∷ [])");
+        assert_eq!(output(&before(100, 110)), "(from 100 10)");
+        assert_eq!(output(&before(100, 1136)), "(from 100 1036)");
+        let tail = [vec![7, 102], before(102, 112)].concat();
+        assert_eq!(output(&tail), "(7 ∷ 102 ∷ (from 102 10))");
+        let tail = [vec![7; 12], before(112, 123)].concat();
+        assert_eq!(output(&tail), "(replicate 12 7 ++ (from 112 11))");
+        let other = [vec![7, 102], before(101, 112)].concat();
+        assert_eq!(output(&other), list(&other));
+    }
+
+    #[test]
     fn lines_are_not_long() {
         for name in NAMES {
             for line in text(name).unwrap().lines() {
@@ -340,5 +409,7 @@ mod tests {
         assert!(text("ScriptCases").unwrap().contains(row));
         let row = "    -- 31: a line break alone is an empty line: <CR><LF>\n    ∷ took (13 ∷ 10 ∷ []) 1 31 0 (99 ∷ [])\n";
         assert!(text("CallCases").unwrap().contains(row));
+        let row = "    -- 1: no byte, to the sheet\n    ∷ asSheet [] 12 1 (from 100 12)\n";
+        assert!(text("ColumnCases").unwrap().contains(row));
     }
 }

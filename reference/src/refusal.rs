@@ -1,4 +1,4 @@
-//! The numbers that the entries, the run and the import answer with.
+//! The numbers that the entries, the run, the import and the column form answer with.
 
 /// The arguments are accepted; the script ran to its END.
 pub const NONE: u32 = 0;
@@ -24,6 +24,8 @@ pub const COMMAND: u32 = 9;
 pub const FORM: u32 = 10;
 /// An operand, k or the signed number is outside its range.
 pub const RANGE: u32 = 11;
+/// The output is shorter than the sheet.
+pub const OUTPUT_SHORT: u32 = 15;
 
 /// A register that the command reads is unset.
 pub const UNSET: u32 = 21;

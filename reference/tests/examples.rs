@@ -1,10 +1,12 @@
-//! The files of examples/sheets and examples/lists are those that the reference makes, and the documents quote them.
+//! The files of examples/sheets and examples/lists are those that the reference makes, and the documents quote them, and the column form of a sheet.
 
 use std::fs;
 use std::path::PathBuf;
 
 use reference::calls::case::printed;
 use reference::calls::examples as lists;
+use reference::columns::case::filling;
+use reference::columns::{to_columns, Way};
 use reference::sheets::examples::{named, NAMES};
 use reference::table;
 
@@ -74,25 +76,87 @@ fn quoted_bytes(line: &str) -> Option<(usize, Vec<u8>)> {
     Some((offset, bytes.collect()))
 }
 
-/// An example that a document quotes, and how many lines of its run stand before the next quotation.
+/// A line that the examples in C and Rust print of the column form, as `put together 82 bytes same`.
+fn is_of_parts(line: &str) -> bool {
+    line.starts_with("part ") || line.starts_with("put together ")
+}
+
+/// The input turned with an output of its length.
+fn turned(way: Way, input: &[u8]) -> Vec<u8> {
+    let mut output = vec![0; input.len()];
+    assert_eq!(way.turn(input, &mut output), 0);
+    output
+}
+
+/// A party's part of a column form, parties counted from 1: from 11 + script length + (j - 1) times the
+/// part's length on.
+fn part(columns: &[u8], party: usize) -> &[u8] {
+    let front = 11 + usize::from(u16::from_le_bytes([columns[9], columns[10]]));
+    let length = (columns.len() - front) / usize::from(columns[1]);
+    &columns[front + (party - 1) * length..][..length]
+}
+
+/// What a heading quotes.
+enum Bytes {
+    Sheet,
+    Columns,
+    Part(usize),
+    Back,
+}
+
+/// The name of an example, and what is quoted of it.
+fn headed(heading: &str) -> (&str, Bytes) {
+    if let Some(name) = heading.strip_suffix(" as a column form") {
+        return (name, Bytes::Columns);
+    }
+    if let Some(name) = heading.strip_suffix(" turned back") {
+        return (name, Bytes::Back);
+    }
+    if let Some((name, party)) = heading.split_once(", part of party ") {
+        return (name, Bytes::Part(party.parse().unwrap()));
+    }
+    (heading, Bytes::Sheet)
+}
+
+/// An example that a document quotes, what is quoted of it, and how many lines of its run stand before
+/// the next quotation.
 struct Quoted {
     name: String,
+    bytes: Bytes,
     passed: usize,
 }
 
 impl Quoted {
-    fn new(name: &str) -> Quoted {
+    fn new(heading: &str) -> Quoted {
+        let (name, bytes) = headed(heading);
         Quoted {
             name: name.to_owned(),
+            bytes,
             passed: 0,
         }
     }
 
-    /// Holds an indented line to the example's sheet or to the lines of its run, which are quoted in
-    /// their order. Whether it is a quotation.
+    /// The bytes that are quoted of the sheet.
+    fn quoted(&self, sheet: &[u8]) -> Vec<u8> {
+        let columns = || turned(Way::ToColumns, sheet);
+        match self.bytes {
+            Bytes::Sheet => sheet.to_vec(),
+            Bytes::Columns => columns(),
+            Bytes::Part(party) => part(&columns(), party).to_vec(),
+            Bytes::Back => turned(Way::ToSheet, &columns()),
+        }
+    }
+
+    /// Holds an indented line to the bytes that are quoted or to the lines of the sheet's run, which are
+    /// quoted in their order. Whether it is a quotation.
     fn holds(&mut self, line: &str) -> bool {
         if is_import_end(line) {
             assert!(ends_an_import(line), "no example list ends so: {line}");
+            return true;
+        }
+        if is_of_parts(line) {
+            let expected = text("examples/expected");
+            assert!(expected.lines().any(|it| it == line), "not printed: {line}");
             return true;
         }
         let name = &self.name;
@@ -108,7 +172,8 @@ impl Quoted {
             return false;
         };
         assert!(!bytes.is_empty(), "{name}: {line}");
-        assert!(sheet[offset..].starts_with(&bytes), "{name}: {line}");
+        let quoted = self.quoted(&sheet);
+        assert!(quoted[offset..].starts_with(&bytes), "{name}: {line}");
         true
     }
 }
@@ -132,4 +197,22 @@ fn documents_quote_the_sheets_and_their_lines() {
     assert!(quotations("docs/EXAMPLES.md", "mul") > 50);
     assert!(quotations("README.md", "three-calls") > 5);
     assert_eq!(quotations("docs/REFUSALS.md", "no-mask-left"), 1);
+}
+
+/// What docs/EXAMPLES.md says of other sheets and outputs.
+#[test]
+fn the_column_form_is_refused_by_its_output_alone() {
+    let mul = named("mul").unwrap();
+    assert_eq!(to_columns(&mul, &mut [0; 81]), 15);
+    let before: [u8; 128] = std::array::from_fn(filling);
+    let mut long = before;
+    assert_eq!(to_columns(&mul, &mut long), 0);
+    assert_eq!(long[82..], before[82..]);
+    let back = turned(Way::ToSheet, &mul);
+    assert!(back != mul && back != turned(Way::ToColumns, &mul));
+    for name in NAMES {
+        let sheet = named(name).unwrap();
+        let columns = turned(Way::ToColumns, &sheet);
+        assert!(turned(Way::ToSheet, &columns) == sheet, "{name}");
+    }
 }

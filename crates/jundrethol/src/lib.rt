@@ -6,6 +6,7 @@ ghost use mathlib.Core.Path.{_≡_};
 ghost use Rattle.model.specs.Entries.{shareNumber, shareLeft, recoverNumber, recoverValue, recoverLeft, encodeNumber, encodeValue, decodeNumber, decodeValue};
 ghost use Rattle.model.specs.Run as Run;
 ghost use Rattle.model.specs.Calls as Calls;
+ghost use Rattle.model.specs.Columns.{columnForm, sheetForm, turnNumber, outputLeft};
 ghost use Rattle.jundrethol.specs.Lent.{Handed, asImported};
 use machine::run;
 
@@ -34,6 +35,21 @@ pub extern "C" fn jundrethol_import(calls: &mut u64, list: &[u8], seconds: &mut 
     let answer = calls::import(list, seconds);
     *calls = answer.calls as u64;
     answer.number
+}
+
+// The column form of a sheet, and the sheet of a column form. Both refuse 1, 2, 3, 4, 15.
+#[no_mangle]
+pub extern "C" fn jundrethol_to_columns(sheet: &[u8], columns: &mut [u8]) -> u32
+    ensures { λ r. ⌜ (r ≡ turnNumber (now (sheet .entry)) (now (columns .entry))) × (now (columns .exit) ≡ outputLeft columnForm (now (sheet .entry)) (now (columns .entry))) ⌝ }
+{
+    column_form::to_columns(sheet, columns)
+}
+
+#[no_mangle]
+pub extern "C" fn jundrethol_to_sheet(columns: &[u8], sheet: &mut [u8]) -> u32
+    ensures { λ r. ⌜ (r ≡ turnNumber (now (columns .entry)) (now (sheet .entry))) × (now (sheet .exit) ≡ outputLeft sheetForm (now (columns .entry)) (now (sheet .entry))) ⌝ }
+{
+    column_form::to_sheet(columns, sheet)
 }
 
 // The small entries follow, each with the contract of the Rattle entry that it calls. A value goes to the place that C lends for it, 0 in a

@@ -18,6 +18,7 @@ use Rattle.model.specs.Sheet.{headerOf, headerSize, maskBits, largestIn,
 use Rattle.model.specs.Commands.{throughLines, registersFrom, command}
 use Rattle.model.specs.Run.{allSet, marked, check, pay, runLines, nothingSpent, start, written, outcome, runScript, stopOf, run}
 use Rattle.model.specs.Calls.{isTEXTDATA, alone, plain, quoted, field, isEnd, fields, readLine, isDigit, allDigits, decimalFrom, time, lasting, call, fourFields, lineAt, lineNumber, taken, imported}
+use Rattle.model.specs.Columns.{sharesFrom, regrouped, turnedOver, columnForm, sheetForm, wholeTests, outputTests, turnTests, outputLeft}
 use Rattle.model.specs.CaseForms.{registersSeen, seen, Hold}
 use Rattle.model.specs.SheetCases.{sheetCases}
 use Rattle.model.specs.ScriptCases.{scriptCases}
@@ -25,6 +26,7 @@ use Rattle.model.specs.RunCases.{runCases}
 use Rattle.model.specs.MaskCases.{maskCases}
 use Rattle.model.specs.EntryCases.{entryCases}
 use Rattle.model.specs.CallCases.{callCases}
+use Rattle.model.specs.ColumnCases.{columnCases}
 use Rattle.model.specs.Cases.{checks, Cases}
 
 pub sheets-hold : Hold sheetCases
@@ -51,6 +53,10 @@ pub calls-hold : Hold callCases
 unfolding onto firstFailed isTEXTDATA alone plain quoted field isEnd fields readLine isDigit allDigits decimalFrom time lasting call fourFields lineAt lineNumber taken imported callCases
 calls-hold = refl
 
+pub columns-hold : Hold columnCases
+unfolding from onto number modulus bits inUse fieldTests settingTests parties headerOf headerSize maskBits limits impliedLength firstFailed headerTests limitTests lengthTests sharesFrom regrouped turnedOver columnForm sheetForm wholeTests outputTests turnTests outputLeft columnCases
+columns-hold = refl
+
 pub cases : Cases
 unfolding from onto firstFailed allSet check checks isTEXTDATA alone plain quoted field isEnd fields readLine isDigit allDigits decimalFrom time lasting call fourFields lineAt lineNumber taken imported
-cases = record { sheets = sheets-hold; scripts = scripts-hold; runs = runs-hold; masked = masked-hold; order = refl; entries = entries-hold; calls = calls-hold; values = refl; plain-names = refl; quoted-names = refl }
+cases = record { sheets = sheets-hold; scripts = scripts-hold; runs = runs-hold; masked = masked-hold; order = refl; entries = entries-hold; calls = calls-hold; columns = columns-hold; values = refl; plain-names = refl; quoted-names = refl }

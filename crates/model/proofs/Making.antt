@@ -8,11 +8,11 @@ use lib.ListN.{length, drop, length-append, length-drop, take-append-drop, drop-
 use lib.Seq.{length-take-le, take-at, drop-drop, drop-cons}
 use Rattle.algebra.specs.Lists.{Below}
 use Rattle.model.specs.Steps.{Row, Deal}
-use Rattle.model.specs.Sheet.{Header, headerOf, headerSize, inputsAt, impliedLength, scriptIn, inputIn, dealIn, dealRows, bytesOf, rowBytes, headerBytes, sheetOf}
+use Rattle.model.specs.Sheet.{Header, headerOf, headerSize, inputsAt, impliedLength, rowCount, scriptIn, inputIn, dealIn, dealRows, bytesOf, rowBytes, headerBytes, sheetOf}
 use Rattle.model.specs.Making.{Parts, Says, Making}
 use Rattle.model.proofs.LittleEndian.{past, number-read, byte, number-fits, number-written}
 use Rattle.model.proofs.SheetRows.{length-rows, rows-append, rows-read, rows-written, rows-fit}
-use Rattle.model.proofs.SheetDeal.{rowCount, implied, all-rows, Shape, shape-in, length-all, same}
+use Rattle.model.proofs.SheetDeal.{implied, all-rows, Shape, shape-in, length-all, same}
 
 -- the rows of input and deal together
 together : (h : Header) (script : List ℕ) (input : List Row) (d : Deal)

@@ -9,7 +9,7 @@ use lib.ListN.{length, take, drop, length-append}
 use lib.Seq.{take-at, drop-at}
 use Rattle.model.specs.Bytes.{rowAt}
 use Rattle.model.specs.Steps.{Row, Triple, Deal}
-use Rattle.model.specs.Sheet.{Header, maskBits, inputsAt, impliedLength, inputIn, dealIn, dealRows, rowsAt, masksFrom, triplesFrom, maskRows, tripleRows}
+use Rattle.model.specs.Sheet.{Header, maskBits, inputsAt, impliedLength, rowCount, inputIn, dealIn, dealRows, rowsAt, masksFrom, triplesFrom, maskRows, tripleRows}
 
 -- two lists of the same length, before two others
 halves : {A : Type 0} (a b c d : List A) → length a ≡ length b → a ++ c ≡ b ++ d → (a ≡ b) × (c ≡ d)
@@ -95,10 +95,7 @@ module _ (s : List ℕ) (n : ℕ) where
       let two : i + 4 * n * 2 ≡ i + 4 * n + 4 * n = omega arith in
       rw (triple-rows (i + 4 * n * 3) c, e, rows-add i 3 (3 * c), two)
 
--- a header's number of rows; the length that it implies; and all rows, in the sheet's order
-abbrev pub rowCount : Header → ℕ
-rowCount h = h .inputs + (maskBits h * h .masks + 3 * h .triples)
-
+-- the length that a header implies, by its rows; and all rows, in the sheet's order
 pub implied : (h : Header) → impliedLength h ≡ inputsAt h + 4 * h .n * rowCount h
 unfolding impliedLength
 implied h = omega arith

@@ -1,5 +1,5 @@
--- The forms of the rows in SheetCases, ScriptCases, RunCases, MaskCases, EntryCases and CallCases: what the definitions give, and what the
--- reference answers by paper and requests.
+-- The forms of the rows in SheetCases, ScriptCases, RunCases, MaskCases, EntryCases, CallCases and ColumnCases: what the definitions give, and what
+-- the reference answers by paper and requests.
 -- Assumes nothing.
 use mathlib.Core.Path.{_≡_}
 use mathlib.Core.Bool.{Bool, true, false, cond}
@@ -7,13 +7,14 @@ use mathlib.Core.List.{List, [], _∷_, _++_, map}
 use Prim.Native.Nat.{ℕ, suc}
 use lib.IntN.{ℤ, pos}
 use lib.ListN.{length, replicate}
-use Rattle.algebra.specs.Lists.{sameList}
+use Rattle.algebra.specs.Lists.{from, sameList}
 use Rattle.model.specs.Entries.{shareNumber, shareLeft, recoverNumber, recoverValue, recoverLeft, encodeNumber, encodeValue, decodeNumber, decodeValue}
 use Rattle.model.specs.Steps.{Row}
 use Rattle.model.specs.Sheet.{shareBytes}
 use Rattle.model.specs.Counts.{listed}
 use Rattle.model.specs.Run.{Outcome, run}
 use Rattle.model.specs.Calls.{Imported, imported}
+use Rattle.model.specs.Columns.{columnForm, sheetForm, turnNumber, outputLeft}
 
 -- a register that is set, its number before its cells; one that is unset is left out where its cells are 0
 abbrev pub oneSeen : ℕ → Bool → Row → List (List ℕ)
@@ -59,7 +60,7 @@ stopped header script shares number place =
 abbrev pub scripted : ℕ → List ℕ → ℕ → ℕ → Case
 scripted f script number place = stopped (f ∷ 3 ∷ 1 ∷ 0 ∷ 0 ∷ 0 ∷ 0 ∷ 0 ∷ 0 ∷ length script ∷ 0 ∷ []) script [] number place
 
--- what an entry answers, 0 being the value of share, and the lent list that it leaves, which encode and decode do not have
+-- what an entry answers, 0 being the value of share and of turning over or back, and the lent list that it leaves, which encode and decode do not have
 pub record Answer : Type 0 where
   pub number : ℕ
   pub value : ℤ
@@ -102,3 +103,16 @@ CallCase = Told Imported
 abbrev pub took : List ℕ → ℕ → ℕ → ℕ → List ℕ → CallCase
 took list lent number calls left =
     record { computed = imported list (replicate lent 99); told = record { number = number; calls = calls; out = left } }
+
+-- A call that turns an input over or back: its number, and the whole output after it. The output has this length, and 100 + i stands at place i.
+abbrev pub turned : (List ℕ → List ℕ) → List ℕ → ℕ → ℕ → List ℕ → Entry
+turned form s lent number left =
+    let out : List ℕ = from 100 lent in
+    record { computed = answer (turnNumber s out) (pos 0) (outputLeft form s out); told = answer number (pos 0) left }
+
+-- to the column form, and to the sheet
+abbrev pub asColumns : List ℕ → ℕ → ℕ → List ℕ → Entry
+asColumns = turned columnForm
+
+abbrev pub asSheet : List ℕ → ℕ → ℕ → List ℕ → Entry
+asSheet = turned sheetForm

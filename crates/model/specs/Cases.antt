@@ -17,6 +17,7 @@ use Rattle.model.specs.RunCases.{runCases}
 use Rattle.model.specs.MaskCases.{maskCases}
 use Rattle.model.specs.EntryCases.{entryCases}
 use Rattle.model.specs.CallCases.{callCases}
+use Rattle.model.specs.ColumnCases.{columnCases}
 
 -- "Tried before a command changes anything, in this order": 21 to 26. No command takes both an input row and a mask, so no sheet shows where 22
 -- stands in the order. Here a command reads register 0 and takes one of everything.
@@ -36,8 +37,8 @@ checks =
     ∷ checked true 1 1 1 3 0 ∷ checked true 1 1 1 3 1 ∷ checked false 1 1 1 3 1 ∷ checked true 0 1 1 3 1 ∷ checked true 1 0 1 3 1
     ∷ checked true 1 1 0 3 1 ∷ checked true 1 1 1 2 1 ∷ []
 
--- Each row of the six tables computes to what the reference, a separately written program, answers by paper and requests. It writes the tables, and
--- the proved programs `cases`, `entries` and `call_cases` answer the same sheets, calls and lists.
+-- Each row of the seven tables computes to what the reference, a separately written program, answers by paper and requests. It writes the tables, and
+-- the proved programs `cases`, `entries`, `call_cases` and `column_cases` answer the same sheets, calls, lists and inputs.
 pub record Cases : Type 0 where
   pub sheets : Hold sheetCases
   pub scripts : Hold scriptCases
@@ -46,6 +47,7 @@ pub record Cases : Type 0 where
   pub order : checks ≡ 21 ∷ 22 ∷ 23 ∷ 24 ∷ 25 ∷ 26 ∷ 0 ∷ 21 ∷ 22 ∷ 23 ∷ 24 ∷ 25 ∷ []
   pub entries : Hold entryCases
   pub calls : Hold callCases
+  pub columns : Hold columnCases
   -- the values of fields, of which an import shows the times alone: "a""b","<CR><LF>,"<CR><LF>c
   pub values : readLine (34 ∷ 97 ∷ 34 ∷ 34 ∷ 98 ∷ 34 ∷ 44 ∷ 34 ∷ 13 ∷ 10 ∷ 44 ∷ 34 ∷ 13 ∷ 10 ∷ 99 ∷ [])
       ≡ found ((97 ∷ 34 ∷ 98 ∷ []) ∷ (13 ∷ 10 ∷ 44 ∷ []) ∷ []) (13 ∷ 10 ∷ 99 ∷ [])

@@ -27,6 +27,8 @@ pub mod Secrecy
 pub mod RealRuns
 pub mod Calls
 pub mod CallLists
+pub mod Columns
+pub mod ColumnForms
 pub mod CaseForms
 pub mod SheetCases
 pub mod ScriptCases
@@ -34,4 +36,5 @@ pub mod RunCases
 pub mod MaskCases
 pub mod EntryCases
 pub mod CallCases
+pub mod ColumnCases
 pub mod Cases

@@ -72,6 +72,10 @@ triplesAt h = masksAt h + 4 * h .n * maskBits h * h .masks
 unfoldable pub impliedLength : Header → ℕ
 impliedLength h = triplesAt h + 4 * h .n * 3 * h .triples
 
+-- how many rows there are: of the input, of the masks and of the triples
+abbrev pub rowCount : Header → ℕ
+rowCount h = h .inputs + (maskBits h * h .masks + 3 * h .triples)
+
 -- "Then the script": the bytes after the header, as many as it says
 unfoldable pub scriptIn : Header → List ℕ → List ℕ
 scriptIn h s = take (h .script) (drop (headerSize h) s)

@@ -5,10 +5,9 @@ use mathlib.Core.Bool.{Bool, true, false}
 use mathlib.Core.List.{List, _++_, append-assoc}
 use Prim.Native.Nat.{ℕ, _+_, _*_, _≤_}
 use native.Mathlib.Omega.{arith}
-use borrow.Author.Tests.{eq-eqb, ne-eqb}
 use lib.Dec.{T, eqb, eqb→eq}
 use lib.ListN.{length}
-use Rattle.algebra.proofs.Tests.{and-left}
+use Rattle.algebra.proofs.Tests.{and-left, is-true}
 use Rattle.model.specs.Fields.{fieldTests, settingTests}
 use Rattle.model.specs.Refusing.{firstFailed}
 use Rattle.model.specs.Sheet.{Header, headerOf, headerSize, settingOf, limits, impliedLength, inputIn, dealIn, dealRows, rowsAt, all, headerTests, limitTests, lengthTests, rowTests, sheetTests, Permitted}
@@ -52,19 +51,26 @@ headed-read s {f = f} q H = subst (λ (h : Header). Headed h f) q H
 
 -- The length, by a frame, and a test over all rows.
 module _ {h : Header} {f : Frame} (H : Headed h f) (s : List ℕ) where
-  pub length-right : length s ≡ f .triple + 4 * f .n * 3 * f .triples → eqb (length s) (impliedLength h) ≡ true
-  length-right e = eq-eqb _ _ (e ∙ end-is H)
+  pub length-decides : eqb (length s) (f .triple + 4 * f .n * 3 * f .triples) ≡ eqb (length s) (impliedLength h)
+  length-decides = ap (eqb (length s)) (end-is H)
 
-  pub length-wrong : (length s ≡ f .triple + 4 * f .n * 3 * f .triples → ⊥) → eqb (length s) (impliedLength h) ≡ false
-  length-wrong k = ne-eqb _ _ (λ e. k (e ∙ sym (end-is H)))
-
-  pub rows-told : (g : Row → Bool) {a b : Bool} → a ≡ all g (rowsAt s (f .n) (f .input) (f .inputs + f .l * f .masks + 3 * f .triples)) → a ≡ b
-      → all g (inputsOf s f ++ dealRows (dealOf s f)) ≡ b
-  rows-told g e q = rw (rows-are H s) (told e q)
+  pub rows-told : (g : Row → Bool) (count : ℕ) {a b : Bool} → count ≡ f .inputs + f .l * f .masks + 3 * f .triples
+      → a ≡ all g (rowsAt s (f .n) (f .input) count) → a ≡ b → all g (inputsOf s f ++ dealRows (dealOf s f)) ≡ b
+  rows-told g count k e q = rw (rows-are H s) (told (rw k at e) q)
 
   -- what is asked of a setting
   pub setting-fits : Fitting (record { p = f .p; l = f .l; n = f .n; t = f .t })
   setting-fits = record { modulus = modulus-in H; parties = H .parties .most; threshold = omega (arith, H .parties); bits = bits-in H }
+
+-- a sheet of the length that its header implies
+pub framed : (s : List ℕ) {f : Frame} {a : Bool} → Headed (headerOf s) f → a ≡ eqb (length s) (impliedLength (headerOf s)) → a ≡ true → Framed s f
+framed s H e t =
+    record { headed = H; whole = eqb→eq (length s) (impliedLength (headerOf s)) (rw (told e t) tt) ∙ sym (end-is H) }
+
+-- the rows stand within a sheet
+pub rows-within : {s : List ℕ} {f : Frame} {count : ℕ} → Framed s f → count ≡ f .inputs + f .l * f .masks + 3 * f .triples
+    → f .input + 4 * f .n * count ≤ length s
+rows-within F k = rw k (omega (arith, F .whole, F .headed))
 
 -- The answers of a whole sheet, by those of its header and of its body: the header refuses, the body does, or nothing does.
 module _ (s : List ℕ) where
@@ -83,10 +89,14 @@ module _ (s : List ℕ) where
   all-tests = sym (append-assoc (headerTests s) (limitTests (headerOf s)) _)
 
   module _ {r : Read} (A : Reads header (Headed (headerOf s)) r) where
-    pub header-refuses : {k : ℕ} → r ≡ Refused k → Reads (sheetTests s) (Framed s) r
-    header-refuses {k} e =
+    -- whatever is tried after the header
+    pub refuses-first : (rest : List (Bool × ℕ)) (Is : Frame → Type 0) {k : ℕ} → r ≡ Refused k → Reads (header ++ rest) Is r
+    refuses-first rest Is {k} e =
         let B : Reads header (Headed (headerOf s)) (Refused k) = rw e at A in
-        rw e (rw all-tests (first-decide header _ (B .0) (λ z. omega (arith, B .1))), B .1)
+        rw e (first-decide header rest (B .0) (λ z. omega (arith, B .1)), B .1)
+
+    pub header-refuses : {k : ℕ} → r ≡ Refused k → Reads (sheetTests s) (Framed s) r
+    header-refuses e = rw all-tests (refuses-first _ (Framed s) e)
 
     module _ {f : Frame} (e : r ≡ Sheet f) where
       B : Reads header (Headed (headerOf s)) (Sheet f)
@@ -95,6 +105,9 @@ module _ (s : List ℕ) where
       pub frame-read : Headed (headerOf s) f
       frame-read = B .1
 
+      pub passes-first : (rest : List (Bool × ℕ)) {n : ℕ} → n ≡ firstFailed rest → n ≡ firstFailed (header ++ rest)
+      passes-first rest k = others-decide header rest first-numbered (B .0) refl k
+
       pub long-read : headerSize (headerOf s) ≤ length s
       long-read = header-long s refl (front-passes (headerTests s) _ (header-numbered s) (sym (B .0)))
 
@@ -102,7 +115,7 @@ module _ (s : List ℕ) where
         pub body-decides : n ≡ firstFailed (sheetTests s)
         body-decides =
             rw (all-tests, setting-is frame-read, inputs-are frame-read s, deal-is frame-read s)
-            (others-decide header (body (settingIn f) (inputsOf s f) (dealOf s f)) first-numbered (B .0) refl k)
+            (passes-first (body (settingIn f) (inputsOf s f) (dealOf s f)) k)
 
         pub nothing-refuses : n ≡ 0 → 0 ≡ firstFailed (sheetTests s)
         nothing-refuses z = sym z ∙ body-decides
@@ -111,7 +124,4 @@ module _ (s : List ℕ) where
         unfolding lengthTests rowTests numbered holding
         whole-read z =
             let t = all-hold 4 (body (settingIn f) (inputsOf s f) (dealOf s f)) tt (sym k ∙ z) in
-            record {
-              headed = frame-read;
-              whole = eqb→eq (length s) (impliedLength (headerOf s)) (and-left (eqb (length s) (impliedLength (headerOf s))) true t) ∙ sym (end-is frame-read);
-            }
+            framed s frame-read refl (is-true _ (and-left (eqb (length s) (impliedLength (headerOf s))) true t))

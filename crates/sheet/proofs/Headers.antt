@@ -94,6 +94,10 @@ module _ {h : Header} {f : Frame} (H : Headed h f) where
   pub mask-rows-in : f .l * f .masks ≤ 496
   mask-rows-in = mul-le-mul {n₂ = 31} {m₂ = 16} bits-in (H .masks-most)
 
+  -- how many rows there are at most
+  pub row-count : f .inputs + f .l * f .masks + 3 * f .triples ≤ 2096
+  row-count = omega (arith, H, mask-rows-in)
+
   permitted : Permitted h
   unfolding limits
   permitted =

@@ -1,5 +1,6 @@
 // A frame.
 ghost use mathlib.Core.Path.{_≡_};
+ghost use Prim.Native.Nat.{_+_, _*_, _≤_};
 ghost use Rattle.sheet.specs.Framed.{settingFrom};
 use sharing::setting::Setting;
 
@@ -21,6 +22,14 @@ pub struct Frame {
 }
 
 impl Frame {
+    // How many rows there are, of input, masks and triples.
+    pub fn rows(self) -> usize
+        requires { ⌜ self .inputs + self .l * self .masks + 3 * self .triples ≤ 2096 ⌝ }
+        ensures { λ r. ⌜ r ≡ self .inputs + self .l * self .masks + 3 * self .triples ⌝ }
+    {
+        self.inputs + self.l * self.masks + 3 * self.triples
+    }
+
     pub fn setting(self) -> Setting
         ensures { λ r. ⌜ r ≡ settingFrom self ⌝ }
     {

@@ -6,6 +6,8 @@ pub mod rows;
 
 ghost use mathlib.Core.Path.{_≡_};
 ghost use mathlib.Core.List.{_++_};
+ghost use lib.Dec.{eqb};
+ghost use lib.ListN.{length};
 ghost use Rattle.model.specs.Refusing.{firstFailed};
 ghost use Rattle.model.specs.Sheet as Sheet;
 ghost use Rattle.sheet.specs.Framed.{settingIn, inputsOf, dealOf, Headed, Framed};
@@ -29,12 +31,20 @@ pub fn read_sheet(s: &[u8]) -> Read
     read
 }
 
+// Whether the sheet is as long as its header implies.
+pub fn has_implied_length(s: &[u8], f: Frame) -> bool
+    requires { ⌜ Headed (Sheet.headerOf (now s)) f ⌝ }
+    ensures { λ r. ⌜ r ≡ eqb (length (now (s .entry))) (Sheet.impliedLength (Sheet.headerOf (now (s .entry)))) ⌝ }
+{
+    s.len() == f.triple + 4 * f.n * 3 * f.triples
+}
+
 // 4 for the sheet's length, then 5 to 8, or 0.
 fn body_number(s: &[u8], f: Frame) -> u32
     requires { ⌜ Headed (Sheet.headerOf (now s)) f ⌝ }
     ensures { λ r. ⌜ r ≡ firstFailed (Sheet.lengthTests (Sheet.headerOf (now (s .entry))) (now (s .entry)) ++ Sheet.rowTests (settingIn f) (inputsOf (now (s .entry)) f) (dealOf (now (s .entry)) f)) ⌝ }
 {
-    if s.len() == f.triple + 4 * f.n * 3 * f.triples {
+    if has_implied_length(s, f) {
         rows_number(s, f)
     } else {
         4
@@ -52,7 +62,7 @@ fn rows_number(s: &[u8], f: Frame) -> u32
         n: f.n,
         t: f.t,
     };
-    let count = f.inputs + f.l * f.masks + 3 * f.triples;
+    let count = f.rows();
     if rows::all_below(f.p, f.n, s, f.input, count) {
         if rows::all_sharings(f.p, f.n, f.t, s, f.input, count) {
             if deal::good_masks(setting, s, f.mask, f.masks) {

@@ -2,24 +2,20 @@
 -- Assumes nothing.
 use Rattle.model.proofs.Trying.{trying}
 use Rattle.model.specs.Sheet.{rowTests}
-use Rattle.sheet.proofs.Headers.{modulus-in, mask-rows-in}
-use Rattle.sheet.proofs.Answers.{rows-told, setting-fits}
-use native.Mathlib.Omega.{arith}
+use Rattle.sheet.proofs.Headers.{modulus-in, row-count}
+use Rattle.sheet.proofs.Answers.{rows-told, rows-within, setting-fits}
 use borrow.Author.Needs.{needs}
 use Rattle.sheet.proofs.rows_number.Statement.{statement}
 use Rattle.sheet.proofs.rows_number.Tie as tie
 
-mul-count : tie.Need-mul-count
-mul-count c = omega (arith, mask-rows-in (c .before .before .pre .headed))
+rows-requires : tie.Need-rows-requires
+rows-requires c κs = search (needs, row-count)
 
-add-count : tie.Need-add-count
-add-count c = omega (arith, mask-rows-in (c .before .before .before .pre .headed))
-
-add-count-2 : tie.Need-add-count-2
-add-count-2 c = omega (arith, mask-rows-in (c .before .before .before .before .pre .headed))
+all-below-requires : tie.Need-all-below-requires
+all-below-requires c κs = search (needs, rows-within)
 
 all-sharings-requires : tie.Need-all-sharings-requires
-all-sharings-requires c κs = search (needs, modulus-in)
+all-sharings-requires c κs = search (needs, modulus-in, rows-within)
 
 good-masks-requires : tie.Need-good-masks-requires
 good-masks-requires c κs = search (needs, setting-fits)
@@ -31,5 +27,5 @@ pub rows-number-spec : {M : Type 1} → statement M
 unfolding rowTests
 rows-number-spec =
     tie.close
-    (tie.spec mul-count add-count (λ c. search needs) add-count-2 (λ c κs. search needs) all-sharings-requires good-masks-requires good-triples-requires
+    (tie.spec rows-requires all-below-requires all-sharings-requires good-masks-requires good-triples-requires
     (λ c. search (needs, trying, rows-told) depth 9) (λ c. search (needs, trying, rows-told) depth 9) (λ c. search (needs, trying, rows-told) depth 9) (λ c. search (needs, trying, rows-told) depth 9) (λ c. search (needs, trying, rows-told) depth 9))

@@ -1,0 +1,3 @@
+pub mod Copying
+pub mod Grouping
+pub mod Layouts
