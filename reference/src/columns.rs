@@ -63,9 +63,9 @@ fn put_columns(rows: &[u8], mut columns: &mut [u8], parties: usize) {
     let length = rows.len() / parties;
     for party in 0..parties {
         let (part, rest) = columns.split_at_mut(length);
-        let shares = rows.chunks_exact(SHARE).skip(party).step_by(parties);
-        for (place, share) in part.chunks_exact_mut(SHARE).zip(shares) {
-            place.copy_from_slice(share);
+        let places = part.chunks_exact_mut(SHARE);
+        for (place, row) in places.zip(rows.chunks_exact(SHARE * parties)) {
+            place.copy_from_slice(&row[SHARE * party..][..SHARE]);
         }
         columns = rest;
     }
@@ -76,9 +76,9 @@ fn put_rows(mut columns: &[u8], rows: &mut [u8], parties: usize) {
     let length = rows.len() / parties;
     for party in 0..parties {
         let (part, rest) = columns.split_at(length);
-        let places = rows.chunks_exact_mut(SHARE).skip(party).step_by(parties);
-        for (place, share) in places.zip(part.chunks_exact(SHARE)) {
-            place.copy_from_slice(share);
+        let shares = part.chunks_exact(SHARE);
+        for (row, share) in rows.chunks_exact_mut(SHARE * parties).zip(shares) {
+            row[SHARE * party..][..SHARE].copy_from_slice(share);
         }
         columns = rest;
     }
