@@ -1,6 +1,6 @@
 /* How deep the stack goes in a run of each sheet named and in turning it to its column form and back, in each small entry, and in an import: a call
  * is made on a stack that was filled with one byte, and the lowest byte that changed tells. Two fillings, so that a byte that happens to be the
- * filling is seen. Exits with 1 if a call goes deeper than JUNDRETHOL_STACK, or fails. */
+ * filling is seen. Exits with 1 if a call goes deeper than JUNDRETHOL_STACK, answers another number than it must, or a sheet cannot be read. */
 #define _GNU_SOURCE
 #include <stdio.h>
 #include <string.h>
@@ -10,7 +10,10 @@
 
 static _Alignas(16) unsigned char stack[8 * JUNDRETHOL_STACK];
 static ucontext_t here, there;
+
+/* Set by each call: where its stack begins, and the number that it answers. */
 static uintptr_t top;
+static uint32_t answer;
 
 static uint8_t sheet[JUNDRETHOL_SHEET_LENGTH];
 static size_t sheet_length;
@@ -21,8 +24,8 @@ static void run(void)
     static uint8_t marks[JUNDRETHOL_MARKS_LENGTH];
     static uint64_t counts[JUNDRETHOL_COUNTS_LENGTH];
     top = (uintptr_t)__builtin_frame_address(0);
-    jundrethol_run(sheet, sheet_length, record, JUNDRETHOL_RECORD_LENGTH, revealed, JUNDRETHOL_REVEALED_LENGTH, registers,
-                   JUNDRETHOL_REGISTERS_LENGTH, marks, JUNDRETHOL_MARKS_LENGTH, counts, JUNDRETHOL_COUNTS_LENGTH);
+    answer = jundrethol_run(sheet, sheet_length, record, JUNDRETHOL_RECORD_LENGTH, revealed, JUNDRETHOL_REVEALED_LENGTH, registers,
+                            JUNDRETHOL_REGISTERS_LENGTH, marks, JUNDRETHOL_MARKS_LENGTH, counts, JUNDRETHOL_COUNTS_LENGTH);
 }
 
 static uint8_t columns[JUNDRETHOL_SHEET_LENGTH], back[JUNDRETHOL_SHEET_LENGTH];
@@ -30,49 +33,50 @@ static uint8_t columns[JUNDRETHOL_SHEET_LENGTH], back[JUNDRETHOL_SHEET_LENGTH];
 static void to_columns(void)
 {
     top = (uintptr_t)__builtin_frame_address(0);
-    jundrethol_to_columns(sheet, sheet_length, columns, JUNDRETHOL_SHEET_LENGTH);
+    answer = jundrethol_to_columns(sheet, sheet_length, columns, JUNDRETHOL_SHEET_LENGTH);
 }
 
 static void to_sheet(void)
 {
     top = (uintptr_t)__builtin_frame_address(0);
-    jundrethol_to_sheet(columns, sheet_length, back, JUNDRETHOL_SHEET_LENGTH);
+    answer = jundrethol_to_sheet(columns, sheet_length, back, JUNDRETHOL_SHEET_LENGTH);
 }
 
 static uint32_t shares[7], coefficients[3] = {1, 2, 3}, value;
-static int64_t number;
+static int64_t reading;
 
 static void share(void)
 {
     top = (uintptr_t)__builtin_frame_address(0);
-    jundrethol_share(3, 7, 3, 5, coefficients, 3, shares, 7);
+    answer = jundrethol_share(3, 7, 3, 5, coefficients, 3, shares, 7);
 }
 
 static void recover(void)
 {
     top = (uintptr_t)__builtin_frame_address(0);
-    jundrethol_recover(3, 7, 3, &value, shares, 7, coefficients, 3);
+    answer = jundrethol_recover(3, 7, 3, &value, shares, 7, coefficients, 3);
 }
 
 static void encode(void)
 {
     top = (uintptr_t)__builtin_frame_address(0);
-    jundrethol_encode(3, 30, -5, &value);
+    answer = jundrethol_encode(3, 30, -5, &value);
 }
 
 static void decode(void)
 {
     top = (uintptr_t)__builtin_frame_address(0);
-    jundrethol_decode(3, value, &number);
+    answer = jundrethol_decode(3, value, &reading);
 }
 
+/* Two good lines, and one whose times are out of order. */
 static void import(void)
 {
     static const uint8_t list[] = "\"Hall, \"\"north\"\"\",0000001,0000002,\"0000180\"\r\nGate,5,,6\r\nGate,5,4,6";
     static uint32_t seconds[3];
     static uint64_t calls;
     top = (uintptr_t)__builtin_frame_address(0);
-    jundrethol_import(&calls, list, sizeof list - 1, seconds, 3);
+    answer = jundrethol_import(&calls, list, sizeof list - 1, seconds, 3);
 }
 
 static size_t depth(void (*call)(void), int filling)
@@ -90,11 +94,22 @@ static size_t depth(void (*call)(void), int filling)
     return top - (uintptr_t)&stack[untouched];
 }
 
-static int fits(const char *name, void (*call)(void))
+/* For a call that may answer any number. */
+#define ANY UINT32_MAX
+
+/* Makes the call once with each filling, and prints how deep it goes. */
+static int fits(const char *name, void (*call)(void), uint32_t number)
 {
-    size_t one = depth(call, 0xA5), other = depth(call, 0x5A), most = one > other ? one : other;
-    printf("%s: %zu bytes\n", name, most);
-    return most <= JUNDRETHOL_STACK;
+    static const int fillings[] = {0xA5, 0x5A};
+    size_t most = 0;
+    int good = 1;
+    for (int i = 0; i < 2; i++) {
+        size_t taken = depth(call, fillings[i]);
+        most = taken > most ? taken : most;
+        good &= taken <= JUNDRETHOL_STACK && (number == ANY || answer == number);
+    }
+    printf("%s: %zu bytes%s\n", name, most, good ? "" : ", too many or a wrong answer");
+    return good;
 }
 
 int main(int count, char **names)
@@ -106,10 +121,14 @@ int main(int count, char **names)
             return 1;
         sheet_length = fread(sheet, 1, sizeof sheet, file);
         fclose(file);
-        good &= fits(names[i], run);
-        good &= fits("  to columns", to_columns) & fits("  to sheet", to_sheet);
+        good &= fits(names[i], run, ANY);
+        good &= fits("  to columns", to_columns, JUNDRETHOL_DONE);
+        good &= fits("  to sheet", to_sheet, JUNDRETHOL_DONE);
     }
-    good &= fits("share", share) & fits("recover", recover) & fits("encode", encode) & fits("decode", decode)
-            & fits("import", import);
+    good &= fits("share", share, JUNDRETHOL_DONE);
+    good &= fits("recover", recover, JUNDRETHOL_DONE);
+    good &= fits("encode", encode, JUNDRETHOL_DONE);
+    good &= fits("decode", decode, JUNDRETHOL_DONE);
+    good &= fits("import", import, JUNDRETHOL_BAD_TIME);
     return good ? 0 : 1;
 }

@@ -166,7 +166,7 @@ uint32_t jundrethol_import(
  *          (in field 0, 1, 2 or 3), 3 for each triple. All parts are equally long: (sheet_length - 11 - script length) / n bytes. Party j's
  *          part begins at columns[11 + script length + (j - 1) times that length]. Past the column form columns is unchanged.
  *
- * Input and output may not overlap: nothing is turned in place.
+ * Nothing is turned in place: as everywhere, what is written may not overlap with what is read.
  *
  * Answers 0, or a refusal 1, 2, 3 or 4 of the sheet, or 15: columns_length is below sheet_length. A refusal writes nothing.
  */
@@ -174,8 +174,6 @@ uint32_t jundrethol_to_columns(const uint8_t *sheet, size_t sheet_length, uint8_
 
 /* Turns a column form back to its sheet. Of the column form, too, only header and length are looked at. An input that is not refused is the
  * same bytes again after both functions, in either order. Past the sheet the output is unchanged.
- *
- * Input and output may not overlap: nothing is turned in place.
  *
  * Answers 0, or a refusal 1, 2, 3 or 4 of the column form, or 15: sheet_length is below columns_length. A refusal writes nothing.
  */

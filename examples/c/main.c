@@ -125,9 +125,8 @@ static void import_calls(void)
     expect(jundrethol_import(&calls, bytes, 20, seconds, COUNT(seconds)) == JUNDRETHOL_BAD_LINE && calls == 0, "a quote is not closed");
 }
 
-/* Room for the sheet and for what is past it, and for the most parties that a sheet can have. */
+/* Room for the sheet of make_sheet, and for what is past it. */
 #define ROOM 128
-#define MOST_PARTIES 7
 
 /* Every place gets another byte, so that a byte from another place is seen. */
 static void fill(uint8_t *output)
@@ -136,11 +135,41 @@ static void fill(uint8_t *output)
         output[i] = (uint8_t)(100 + i);
 }
 
-/* Header and script with the parts of a column form, each in a list of its own. */
+/* The most parties that a sheet can have. */
+#define MOST_PARTIES 7
+
+/* Header and script, and the parties' parts, which are equally long. cut points into the column form; join takes them from anywhere, so also as
+ * the firms sent them back. */
 struct pieces {
+    const uint8_t *front, *parts[MOST_PARTIES];
     size_t front_length, parties, part_length;
-    uint8_t front[ROOM], parts[MOST_PARTIES][ROOM];
 };
+
+/* Where the pieces of a column form stand. Header and length are not tested: jundrethol_to_columns wrote what is cut here. A column form from
+ * elsewhere may be cut if jundrethol_to_sheet does not refuse it. */
+static struct pieces cut(const uint8_t *columns, size_t length)
+{
+    struct pieces pieces = {.front = columns, .parties = columns[1]};
+    pieces.front_length = 11 + (columns[9] | (size_t)columns[10] << 8);
+    pieces.part_length = (length - pieces.front_length) / pieces.parties;
+    for (size_t i = 0; i < pieces.parties; i++)
+        pieces.parts[i] = columns + pieces.front_length + i * pieces.part_length;
+    return pieces;
+}
+
+static size_t joined_length(const struct pieces *pieces)
+{
+    return pieces->front_length + pieces->parties * pieces->part_length;
+}
+
+/* Header and script, then the parts in order, are the column form again. The caller lends joined_length bytes for it. */
+static void join(const struct pieces *pieces, uint8_t *columns)
+{
+    memcpy(columns, pieces->front, pieces->front_length);
+    columns += pieces->front_length;
+    for (size_t i = 0; i < pieces->parties; i++, columns += pieces->part_length)
+        memcpy(columns, pieces->parts[i], pieces->part_length);
+}
 
 static void print_part(size_t party, size_t start, const uint8_t *part, size_t length)
 {
@@ -150,52 +179,29 @@ static void print_part(size_t party, size_t start, const uint8_t *part, size_t l
     printf("\n");
 }
 
-/* Cuts a column form, of which nothing but the header and the length is known. */
-static void cut(const uint8_t *columns, size_t length, struct pieces *pieces)
-{
-    pieces->parties = columns[1];
-    pieces->front_length = 11 + (columns[9] | (size_t)columns[10] << 8);
-    pieces->part_length = (length - pieces->front_length) / pieces->parties;
-    memcpy(pieces->front, columns, pieces->front_length);
-    for (size_t party = 1; party <= pieces->parties; party++) {
-        size_t start = pieces->front_length + (party - 1) * pieces->part_length;
-        uint8_t *part = pieces->parts[party - 1];
-        memcpy(part, columns + start, pieces->part_length);
-        print_part(party, start, part, pieces->part_length);
-    }
-}
-
-/* Header and script, then the parts in order, are the column form again. */
-static size_t join(const struct pieces *pieces, uint8_t *columns)
-{
-    size_t length = pieces->front_length;
-    memcpy(columns, pieces->front, length);
-    for (size_t i = 0; i < pieces->parties; i++, length += pieces->part_length)
-        memcpy(columns + length, pieces->parts[i], pieces->part_length);
-    return length;
-}
-
 static void cut_and_join(void)
 {
     static uint8_t sheet[ROOM], columns[ROOM], joined[ROOM], back[ROOM], before[ROOM], expected[ROOM];
-    static struct pieces pieces;
     size_t length = make_sheet(sheet);
     fill(before);
     fill(columns);
     expect(jundrethol_to_columns(sheet, length, columns, ROOM) == JUNDRETHOL_DONE, "the sheet has a column form");
     expect(memcmp(columns + length, before + length, ROOM - length) == 0, "a longer output keeps its tail");
-    cut(columns, length, &pieces);
-    size_t joined_length = join(&pieces, joined);
+    struct pieces pieces = cut(columns, length);
+    for (size_t i = 0; i < pieces.parties; i++)
+        print_part(i + 1, (size_t)(pieces.parts[i] - columns), pieces.parts[i], pieces.part_length);
+    expect(joined_length(&pieces) == length, "the pieces are the whole column form");
+    join(&pieces, joined);
     fill(back);
-    expect(jundrethol_to_sheet(joined, joined_length, back, ROOM) == JUNDRETHOL_DONE, "header, script and parts are a column form");
+    expect(jundrethol_to_sheet(joined, length, back, ROOM) == JUNDRETHOL_DONE, "header, script and parts are a column form");
     /* The whole output: the sheet, and past it the bytes from before. */
     fill(expected);
     memcpy(expected, sheet, length);
     int same = memcmp(back, expected, ROOM) == 0;
-    printf("put together %zu bytes %s\n", joined_length, same ? "same" : "other");
+    printf("put together %zu bytes %s\n", length, same ? "same" : "other");
     expect(same, "the sheet is the same again, and the tail is kept");
     fill(back);
-    expect(jundrethol_to_sheet(joined, joined_length, back, length - 1) == JUNDRETHOL_OUTPUT_SHORT, "an output that is too short is refused");
+    expect(jundrethol_to_sheet(joined, length, back, length - 1) == JUNDRETHOL_OUTPUT_SHORT, "an output that is too short is refused");
     expect(memcmp(back, before, ROOM) == 0, "a refusal writes nothing");
 }
 

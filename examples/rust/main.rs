@@ -80,36 +80,33 @@ fn import_calls() {
     expect(jundrethol::import(&LIST[..20], &mut seconds) == (31, 0), "a quote is not closed");
 }
 
-/// Header and script with the parts of a column form, each in a list of its own.
-struct Pieces {
-    front: Vec<u8>,
-    parts: Vec<Vec<u8>>,
+/// Header and script, and the parties' parts. `cut` leaves them in the column form; `join` takes them from anywhere, so also as the firms sent
+/// them back.
+struct Pieces<'a> {
+    front: &'a [u8],
+    parts: Vec<&'a [u8]>,
+}
+
+/// Where the pieces of a column form stand. Header and length are not tested: `to_columns` wrote what is cut here. A column form from elsewhere
+/// may be cut if `to_sheet` does not refuse it.
+fn cut(columns: &[u8]) -> Pieces<'_> {
+    let parties = usize::from(columns[1]);
+    let script = usize::from(u16::from_le_bytes([columns[9], columns[10]]));
+    let (front, shares) = columns.split_at(11 + script);
+    let length = shares.len() / parties;
+    let parts = (0..parties).map(|i| &shares[i * length..][..length]).collect();
+    Pieces { front, parts }
+}
+
+/// Header and script, then the parts in order, are the column form again.
+fn join(pieces: &Pieces) -> Vec<u8> {
+    [pieces.front, &pieces.parts.concat()].concat()
 }
 
 fn print_part(party: usize, start: usize, part: &[u8]) {
     let shares = part.chunks_exact(4).map(|share| u32::from_le_bytes([share[0], share[1], share[2], share[3]]));
     let shares: String = shares.map(|share| format!(" {share}")).collect();
     println!("part {party} from {start} bytes {} shares{shares}", part.len());
-}
-
-/// Cuts a column form, of which nothing but the header and the length is known.
-fn cut(columns: &[u8]) -> Pieces {
-    let parties = usize::from(columns[1]);
-    let front = 11 + usize::from(u16::from_le_bytes([columns[9], columns[10]]));
-    let length = (columns.len() - front) / parties;
-    let mut parts = Vec::new();
-    for party in 1..=parties {
-        let start = front + (party - 1) * length;
-        let part = columns[start..start + length].to_vec();
-        print_part(party, start, &part);
-        parts.push(part);
-    }
-    Pieces { front: columns[..front].to_vec(), parts }
-}
-
-/// Header and script, then the parts in order, are the column form again.
-fn join(pieces: &Pieces) -> Vec<u8> {
-    [pieces.front.clone(), pieces.parts.concat()].concat()
 }
 
 /// An output of which every place has another byte, so that a byte from another place is seen.
@@ -122,7 +119,13 @@ fn cut_and_join() {
     let mut columns = filled();
     expect(jundrethol::to_columns(&sheet, &mut columns) == Ok(()), "the sheet has a column form");
     expect(columns[sheet.len()..] == filled()[sheet.len()..], "a longer output keeps its tail");
-    let joined = join(&cut(&columns[..sheet.len()]));
+    let pieces = cut(&columns[..sheet.len()]);
+    let mut start = pieces.front.len();
+    for (i, part) in pieces.parts.iter().enumerate() {
+        print_part(i + 1, start, part);
+        start += part.len();
+    }
+    let joined = join(&pieces);
     let mut back = filled();
     expect(jundrethol::to_sheet(&joined, &mut back) == Ok(()), "header, script and parts are a column form");
     // The whole output: the sheet, and past it the bytes from before.

@@ -1,10 +1,10 @@
 //! Measures the time of the proved library over that of the reference, in one process.
 //!
 //! `reference/link` builds it. For each sheet, for a list of calls, and for the column form of a sheet
-//! there and back, both sides do their job once and are held to each other. Then come rounds: in each, either side does the job so often that it
-//! takes about half a millisecond or once if that is longer, and the side that starts changes from
-//! round to round. A round's time is that of one job on average. On a busy machine the best round
-//! tells most: a round is slowed by what else runs.
+//! there and back, both sides do their job once and are held to each other. Then come rounds: in each,
+//! either side does the job so often that it takes about half a millisecond or once if that is longer,
+//! and the side that starts changes from round to round. A round's time is that of one job on average.
+//! On a busy machine the best round tells most: a round is slowed by what else runs.
 
 mod library;
 mod rounds;

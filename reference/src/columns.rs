@@ -14,7 +14,7 @@ use crate::sheet::header::{self, Header};
 /// The bytes of a share.
 const SHARE: usize = 4;
 
-#[derive(Clone, Copy, Debug, PartialEq)]
+#[derive(Clone, Copy, Debug, PartialEq, Eq, Hash)]
 pub enum Way {
     ToColumns,
     ToSheet,
@@ -46,7 +46,8 @@ fn number(outcome: Result<(), u32>) -> u32 {
     outcome.err().unwrap_or(refusal::NONE)
 }
 
-/// Tries 1 to 4, then 15. Copies header and script, and puts the shares of so many parties.
+/// Tries 1 to 4, then 15. Copies header and script; put takes the input's shares, the places for them,
+/// and the number of parties.
 fn turn(input: &[u8], output: &mut [u8], put: fn(&[u8], &mut [u8], usize)) -> Result<(), u32> {
     let header = Header::read(input)?;
     let output = output.get_mut(..input.len());
@@ -58,7 +59,7 @@ fn turn(input: &[u8], output: &mut [u8], put: fn(&[u8], &mut [u8], usize)) -> Re
     Ok(())
 }
 
-/// A party's part has its share of every row.
+/// Writes the columns part after part: a party's part has its share of every row.
 fn put_columns(rows: &[u8], mut columns: &mut [u8], parties: usize) {
     let length = rows.len() / parties;
     for party in 0..parties {
@@ -71,7 +72,7 @@ fn put_columns(rows: &[u8], mut columns: &mut [u8], parties: usize) {
     }
 }
 
-/// A party's share of every row is in its part.
+/// Fills the rows party after party: its shares are those of its part, one for each row.
 fn put_rows(mut columns: &[u8], rows: &mut [u8], parties: usize) {
     let length = rows.len() / parties;
     for party in 0..parties {

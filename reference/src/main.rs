@@ -22,7 +22,7 @@ run-cases         writes the stored sheets, each with the lengths of its lent bu
 run-answers       reads such sheets and writes all that each run leaves
 call-cases        writes the stored lists of calls, each with the length of its lent buffer
 call-answers      reads such lists and writes all that each import leaves
-column-cases      writes the stored inputs of the column form, each with its way and its output's length
+column-cases      writes the stored inputs of the column form, each with its direction and its output's length
 column-answers    reads such inputs and writes all that turning each leaves
 model-cases NAME  writes one of the model's tables of cases; the names are TABLES
 table             reads a sheet and writes the lines of its run

@@ -23,3 +23,35 @@ pub fn read_each<T>(bytes: &[u8], read_one: fn(&[u8]) -> Read<T>) -> Result<Vec<
     }
     Ok(cases)
 }
+
+/// What the tests of every set of stored cases ask.
+#[cfg(test)]
+pub mod asked {
+    use std::fmt::Debug;
+    use std::ops::RangeInclusive;
+
+    /// A set of stored cases, their forms as bytes and as lines.
+    pub struct Stored<T> {
+        pub all: fn() -> Vec<T>,
+        pub to_bytes: fn(&T) -> Vec<u8>,
+        pub read_all: fn(&[u8]) -> Result<Vec<T>, String>,
+        pub lines: fn(&T) -> String,
+    }
+
+    impl<T: Debug + PartialEq> Stored<T> {
+        pub fn is_always_the_same_and_read_back(&self) {
+            let cases = (self.all)();
+            assert_eq!(cases, (self.all)());
+            let bytes: Vec<u8> = cases.iter().flat_map(self.to_bytes).collect();
+            assert_eq!((self.read_all)(&bytes), Ok(cases));
+        }
+
+        /// So many cases, and fewer bytes of answers than this.
+        pub fn is_within(&self, count: RangeInclusive<usize>, answers: usize) {
+            let cases = (self.all)();
+            assert!(count.contains(&cases.len()), "{}", cases.len());
+            let length: usize = cases.iter().map(|case| (self.lines)(case).len()).sum();
+            assert!(length < answers, "{length}");
+        }
+    }
+}

@@ -2,8 +2,10 @@
 
 use std::collections::HashSet;
 
+use reference::cases::PERMITTED;
 use reference::columns::case::Case;
 use reference::columns::{held, stored, Way};
+use reference::field::FIELDS;
 use reference::sheet::Sheet;
 use reference::sheets::bench;
 
@@ -17,9 +19,6 @@ struct Seen {
 
 /// The most inputs, masks, triples and script bytes.
 const LIMITS: [usize; 4] = [64, 16, 512, 1024];
-
-/// The rows of a mask in each field.
-const BITS: [usize; 4] = [4, 8, 16, 31];
 
 impl Seen {
     fn length(&self) -> usize {
@@ -38,7 +37,9 @@ impl Seen {
 
     fn rows(&self) -> usize {
         let [inputs, masks, triples, _] = self.counts();
-        inputs + masks * BITS.get(self.byte(0)).unwrap_or(&0) + 3 * triples
+        let field = FIELDS.get(self.byte(0));
+        let bits = field.map_or(0, |field| field.bits() as usize);
+        inputs + masks * bits + 3 * triples
     }
 
     fn front(&self) -> usize {
@@ -344,6 +345,18 @@ fn the_model_s_table_has_these_kinds_either_way() {
     }
 }
 
+#[test]
+fn the_model_s_table_has_every_number_of_parties_either_way() {
+    let seen = seen_of(held::cases());
+    for way in Way::BOTH {
+        for n in 3..=7 {
+            let is_it = |it: &Seen| it.case.way == way && it.byte(1) == n && it.rows() > 1;
+            let mut turned = seen.iter().filter(|it| it.number == 0);
+            assert!(turned.any(is_it), "{way:?} {n}");
+        }
+    }
+}
+
 /// With a mask, an input and a triple, and so that every exchange of shares shows.
 #[test]
 fn all_parties_thresholds_and_fields_are_stored_either_way() {
@@ -354,21 +367,11 @@ fn all_parties_thresholds_and_fields_are_stored_either_way() {
         }
     }
     for way in Way::BOTH {
-        for (n, t) in [
-            (3, 1),
-            (4, 1),
-            (5, 1),
-            (5, 2),
-            (6, 1),
-            (6, 2),
-            (7, 1),
-            (7, 2),
-            (7, 3),
-        ] {
+        for (n, t) in PERMITTED {
             for field in 0..4 {
-                let header = vec![field, n, t];
+                let start = vec![field, n as u8, t as u8];
                 assert!(
-                    found.contains(&(way as u8, header)),
+                    found.contains(&(way as u8, start)),
                     "{way:?} {field} {n} {t}"
                 );
             }

@@ -1,7 +1,5 @@
 //! What turning a sheet into its column form and back leaves, of the stored inputs and of drawn ones.
 
-use std::collections::HashSet;
-
 use reference::columns::case::{filling, Case};
 use reference::columns::drawn::turn_for;
 use reference::columns::{held, stored, to_columns, to_sheet, Way};
@@ -24,7 +22,8 @@ fn turned() -> Vec<(Case, Vec<u8>)> {
     all
 }
 
-/// The rows of a mask in each field.
+/// The rows of a mask in each field, by the paper: what is checked here does not rest on the
+/// reference's table of fields.
 const BITS: [usize; 4] = [4, 8, 16, 31];
 
 /// The parties, where the shares begin, and how many rows there are, by the paper.
@@ -107,8 +106,10 @@ impl Ended {
     }
 }
 
-/// What the tail would be if it were wrong.
-const WRONG: [(&str, fn(&Ended) -> Vec<u16>); 4] = [
+/// A tail that is wrong, and what it would be.
+type WrongTail = (&'static str, fn(&Ended) -> Vec<u16>);
+
+const WRONG: [WrongTail; 4] = [
     ("from the output's start", |it| {
         it.before[..it.tail.len()].to_vec()
     }),
@@ -162,6 +163,13 @@ fn the_model_s_table_shows_a_tail_from_another_place() {
     show_wrong_tails(&all);
 }
 
+/// The shares in order of their bytes, each as often as it stands there.
+fn sorted(shares: &[u8]) -> Vec<&[u8]> {
+    let mut sorted: Vec<_> = shares.chunks_exact(4).collect();
+    sorted.sort();
+    sorted
+}
+
 /// The same input turned either way: number, header and script are the same, and the shares are the
 /// input's.
 #[test]
@@ -177,16 +185,11 @@ fn both_ways_leave_header_and_script_and_the_same_shares() {
         assert_eq!(there.number, back.number);
         if there.number == 0 {
             let (_, front, _) = layout(&case.input);
-            assert_eq!(there.output[..front], case.input[..front]);
-            assert_eq!(back.output[..front], case.input[..front]);
-            let shares = |bytes: &[u8]| -> HashSet<[u8; 4]> {
-                let chunks = bytes[front..case.input.len()].chunks_exact(4);
-                chunks
-                    .map(|four| [four[0], four[1], four[2], four[3]])
-                    .collect()
-            };
-            assert_eq!(shares(&there.output), shares(&case.input));
-            assert_eq!(shares(&back.output), shares(&case.input));
+            for outcome in [there, back] {
+                let written = &outcome.output[..case.input.len()];
+                assert_eq!(written[..front], case.input[..front]);
+                assert_eq!(sorted(&written[front..]), sorted(&case.input[front..]));
+            }
         }
     }
 }

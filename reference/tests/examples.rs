@@ -1,27 +1,17 @@
-//! The files of examples/sheets and examples/lists are those that the reference makes, and the documents quote them, and the column form of a sheet.
+//! The files of examples/sheets and examples/lists are those that the reference makes, and the documents
+//! quote them and the column form of a sheet.
+
+mod files;
 
 use std::fs;
-use std::path::PathBuf;
 
+use files::{path, read, text};
 use reference::calls::case::printed;
 use reference::calls::examples as lists;
 use reference::columns::case::filling;
 use reference::columns::{to_columns, Way};
 use reference::sheets::examples::{named, NAMES};
 use reference::table;
-
-fn path(name: &str) -> PathBuf {
-    let reference = PathBuf::from(env!("CARGO_MANIFEST_DIR"));
-    reference.join("..").join(name)
-}
-
-fn read(name: &str) -> Vec<u8> {
-    fs::read(path(name)).unwrap_or_else(|error| panic!("{name}: {error}"))
-}
-
-fn text(name: &str) -> String {
-    String::from_utf8(read(name)).unwrap()
-}
 
 #[test]
 fn stored_sheets_and_their_lines_are_those_of_the_reference() {
@@ -199,17 +189,29 @@ fn documents_quote_the_sheets_and_their_lines() {
     assert_eq!(quotations("docs/REFUSALS.md", "no-mask-left"), 1);
 }
 
-/// What docs/EXAMPLES.md says of other sheets and outputs.
+/// docs/EXAMPLES.md: an output of 81 bytes is refused, and of one of 128 bytes the last 46 stay.
 #[test]
-fn the_column_form_is_refused_by_its_output_alone() {
+fn the_column_form_of_mul_needs_82_bytes_and_leaves_more_as_they_were() {
     let mul = named("mul").unwrap();
-    assert_eq!(to_columns(&mul, &mut [0; 81]), 15);
     let before: [u8; 128] = std::array::from_fn(filling);
-    let mut long = before;
-    assert_eq!(to_columns(&mul, &mut long), 0);
-    assert_eq!(long[82..], before[82..]);
-    let back = turned(Way::ToSheet, &mul);
-    assert!(back != mul && back != turned(Way::ToColumns, &mul));
+    let mut output = before;
+    assert_eq!(to_columns(&mul, &mut output[..81]), 15);
+    assert_eq!(output, before);
+    assert_eq!(to_columns(&mul, &mut output), 0);
+    assert_eq!(output[82..], before[82..]);
+}
+
+/// docs/EXAMPLES.md: a sheet that is turned as if it were a column form.
+#[test]
+fn mul_turned_to_a_sheet_is_neither_mul_nor_its_column_form() {
+    let mul = named("mul").unwrap();
+    let other = turned(Way::ToSheet, &mul);
+    assert!(other != mul && other != turned(Way::ToColumns, &mul));
+}
+
+/// docs/EXAMPLES.md: also the sheet that a run refuses.
+#[test]
+fn every_example_is_turned_over_and_back() {
     for name in NAMES {
         let sheet = named(name).unwrap();
         let columns = turned(Way::ToColumns, &sheet);

@@ -70,6 +70,14 @@ fn refused<const N: usize>(number: u32, lists: [&str; N]) -> Vec<Told> {
 mod tests {
     use super::*;
     use crate::calls::case::{lines, read_all, FILLING};
+    use crate::stored_bytes::asked::Stored;
+
+    const STORED: Stored<Case> = Stored {
+        all,
+        to_bytes: Case::to_bytes,
+        read_all,
+        lines,
+    };
 
     fn is_left(case: &Case, number: u32, seconds: &[u32]) {
         let outcome = case.outcome();
@@ -91,19 +99,12 @@ mod tests {
 
     #[test]
     fn cases_are_always_the_same_and_read_back() {
-        let cases = all();
-        assert_eq!(cases, all());
-        let bytes: Vec<u8> = cases.iter().flat_map(Case::to_bytes).collect();
-        assert_eq!(read_all(&bytes), Ok(cases));
-        assert!(bytes.len() < 100_000, "{}", bytes.len());
+        STORED.is_always_the_same_and_read_back();
     }
 
     #[test]
     fn answers_are_within_bounds() {
-        let cases = all();
-        assert!((3_000..=4_000).contains(&cases.len()), "{}", cases.len());
-        let length: usize = cases.iter().map(|case| lines(case).len()).sum();
-        assert!(length < 150_000, "{length}");
+        STORED.is_within(3_000..=4_000, 150_000);
     }
 
     #[test]

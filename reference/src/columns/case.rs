@@ -11,7 +11,7 @@ pub fn filling(place: usize) -> u8 {
     (place % 251) as u8
 }
 
-#[derive(Clone, Debug, PartialEq)]
+#[derive(Clone, Debug, PartialEq, Eq, Hash)]
 pub struct Case {
     pub way: Way,
     pub input: Vec<u8>,

@@ -1,9 +1,7 @@
 //! Inputs with any header: what its numbers are, and as many bytes after it as they imply.
 
 use crate::cases::generator::Generator;
-
-/// The rows of a mask in each field.
-const BITS: [usize; 4] = [4, 8, 16, 31];
+use crate::field::FIELDS;
 
 #[derive(Clone, Copy, Debug)]
 pub struct Draft {
@@ -59,16 +57,22 @@ impl Draft {
 
     /// The bytes of all shares. Of a field over 3 a mask is taken to have the rows of one in field 0.
     fn shares(&self) -> usize {
-        let bits = BITS.get(usize::from(self.field)).unwrap_or(&BITS[0]);
+        let field = FIELDS.get(usize::from(self.field)).unwrap_or(&FIELDS[0]);
         let [inputs, masks, triples] = [self.inputs, self.masks, self.triples].map(usize::from);
-        (inputs + masks * bits + 3 * triples) * 4 * usize::from(self.parties)
+        (inputs + masks * field.bits() as usize + 3 * triples) * 4 * usize::from(self.parties)
     }
 
-    /// The bytes of the script count from 201 to 250, and those of the shares from 1 to 199, over and
-    /// over: the script has no command, and up to 199 shares are all different.
-    pub fn counting(&self) -> Vec<u8> {
+    /// Header and script. The script's bytes count from 201 to 250, over and over, so it has no command.
+    fn front(&self) -> Vec<u8> {
         let mut bytes = self.header();
         bytes.extend((201..=250).cycle().take(usize::from(self.script)));
+        bytes
+    }
+
+    /// With a script that counts, and shares whose bytes count from 1 to 199, over and over: up to 199
+    /// shares are all different.
+    pub fn counting(&self) -> Vec<u8> {
+        let mut bytes = self.front();
         bytes.extend((1..=199).cycle().take(self.shares()));
         bytes
     }
@@ -91,8 +95,7 @@ impl Draft {
 
     /// With these shares, and a script that counts.
     pub fn with_shares(&self, shares: impl IntoIterator<Item = u32>) -> Vec<u8> {
-        let mut bytes = self.with_rows(0, 0, 0).counting();
-        bytes.splice(..11, self.header());
+        let mut bytes = self.front();
         bytes.extend(shares.into_iter().flat_map(u32::to_le_bytes));
         bytes
     }

@@ -1,4 +1,5 @@
-//! Short inputs that hold the model's definition of the column form: crate model computes each, and the stored cases have them too.
+//! Short inputs that hold the model's definition of the column form: crate model computes each, and the
+//! stored cases have them too.
 
 use super::case::Case;
 use super::draft::Draft;
@@ -98,6 +99,7 @@ fn parties() -> Vec<Held> {
     let parties = [
         ("four parties", 4, 1),
         ("five parties", 5, 2),
+        ("six parties", 6, 2),
         ("seven parties", 7, 3),
     ];
     let inputs = |(says, n, t)| exact(says, Draft::new(0, n, t).with_rows(2, 0, 0));

@@ -8,6 +8,8 @@ mod numbers;
 mod room;
 mod shapes;
 
+use std::collections::HashSet;
+
 use super::case::Case;
 use super::{held, Way};
 use crate::cases::generator::Generator;
@@ -17,7 +19,15 @@ const SEED: u64 = 0x5EED_000B;
 /// An input, the length of its output, and its number, which is the same either way.
 type Told = (Vec<u8>, usize, u32);
 
+/// No two are the same: what is chosen for two subjects stands where it comes first.
 pub fn all() -> Vec<Case> {
+    let mut stored = HashSet::new();
+    let mut cases = by_subject();
+    cases.retain(|case| stored.insert(case.clone()));
+    cases
+}
+
+fn by_subject() -> Vec<Case> {
     let mut cases: Vec<Case> = told().iter().flat_map(both_ways).collect();
     cases.extend(bodies::there_and_back());
     cases.extend(held::cases());
@@ -48,6 +58,14 @@ fn both_ways((input, lent, _): &Told) -> [Case; 2] {
 mod tests {
     use super::*;
     use crate::columns::case::{lines, read_all};
+    use crate::stored_bytes::asked::Stored;
+
+    const STORED: Stored<Case> = Stored {
+        all,
+        to_bytes: Case::to_bytes,
+        read_all,
+        lines,
+    };
 
     #[test]
     fn cases_answer_what_is_said() {
@@ -61,19 +79,19 @@ mod tests {
 
     #[test]
     fn cases_are_always_the_same_and_read_back() {
+        STORED.is_always_the_same_and_read_back();
+    }
+
+    #[test]
+    fn no_two_cases_are_the_same() {
         let cases = all();
-        assert_eq!(cases, all());
-        let bytes: Vec<u8> = cases.iter().flat_map(Case::to_bytes).collect();
-        assert_eq!(read_all(&bytes), Ok(cases));
-        assert!(bytes.len() <= 400_000, "{}", bytes.len());
+        let different: HashSet<_> = cases.iter().collect();
+        assert_eq!(different.len(), cases.len());
     }
 
     #[test]
     fn answers_are_within_bounds() {
-        let cases = all();
-        assert!((600..=1_000).contains(&cases.len()), "{}", cases.len());
-        let length: usize = cases.iter().map(|case| lines(case).len()).sum();
-        assert!(length < 1_500_000, "{length}");
+        STORED.is_within(600..=1_000, 1_500_000);
     }
 
     #[test]

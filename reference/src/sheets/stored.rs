@@ -72,22 +72,23 @@ fn bits_at(b: u8, w: u8, number: u32) -> Vec<Command> {
 mod tests {
     use super::*;
     use crate::run_case::{lines, read_all};
+    use crate::stored_bytes::asked::Stored;
+
+    const STORED: Stored<Case> = Stored {
+        all,
+        to_bytes: Case::to_bytes,
+        read_all,
+        lines,
+    };
 
     #[test]
     fn cases_are_always_the_same_and_read_back() {
-        let cases = all();
-        assert_eq!(cases, all());
-        let bytes: Vec<u8> = cases.iter().flat_map(Case::to_bytes).collect();
-        assert_eq!(read_all(&bytes), Ok(cases));
-        assert!(bytes.len() < 600_000, "{}", bytes.len());
+        STORED.is_always_the_same_and_read_back();
     }
 
     #[test]
     fn answers_are_within_bounds() {
-        let cases = all();
-        assert!((400..=1_000).contains(&cases.len()), "{}", cases.len());
-        let length: usize = cases.iter().map(|case| lines(case).len()).sum();
-        assert!(length < 800_000, "{length}");
+        STORED.is_within(400..=1_000, 800_000);
     }
 
     #[test]
