@@ -18,7 +18,7 @@ use Rattle.model.specs.Sheet.{headerOf, headerSize, maskBits, largestIn,
 use Rattle.model.specs.Commands.{throughLines, registersFrom, command}
 use Rattle.model.specs.Run.{allSet, marked, check, pay, runLines, nothingSpent, start, written, outcome, runScript, stopOf, run}
 use Rattle.model.specs.Calls.{isTEXTDATA, alone, plain, quoted, field, isEnd, fields, readLine, isDigit, allDigits, decimalFrom, time, lasting, call, fourFields, lineAt, lineNumber, taken, imported}
-use Rattle.model.specs.Columns.{sharesFrom, regrouped, turnedOver, columnForm, sheetForm, wholeTests, outputTests, turnTests, outputLeft}
+use Rattle.model.specs.Columns.{sharesFrom, regrouped, transposed, columnForm, sheetForm, shapeTests, outputTests, turnTests, outputLeft}
 use Rattle.model.specs.CaseForms.{registersSeen, seen, Hold}
 use Rattle.model.specs.SheetCases.{sheetCases}
 use Rattle.model.specs.ScriptCases.{scriptCases}
@@ -54,7 +54,7 @@ unfolding onto firstFailed isTEXTDATA alone plain quoted field isEnd fields read
 calls-hold = refl
 
 pub columns-hold : Hold columnCases
-unfolding from onto number modulus bits inUse fieldTests settingTests parties headerOf headerSize maskBits limits impliedLength firstFailed headerTests limitTests lengthTests sharesFrom regrouped turnedOver columnForm sheetForm wholeTests outputTests turnTests outputLeft columnCases
+unfolding from onto number modulus bits inUse fieldTests settingTests parties headerOf headerSize maskBits limits impliedLength firstFailed headerTests limitTests lengthTests sharesFrom regrouped transposed columnForm sheetForm shapeTests outputTests turnTests outputLeft columnCases
 columns-hold = refl
 
 pub cases : Cases
