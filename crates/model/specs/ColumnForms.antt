@@ -58,7 +58,7 @@ pub record InParts (s c : List ℕ) : Type 0 where
 
 -- "Answers, the number alone"
 pub record TurnNumbers (s out : List ℕ) : Type 0 where
-  -- "1 to 4 as in the paper": the number of a run where it is 4 at most
+  -- "1 to 4 as in the paper": of 1 to 8, which a run tries first, the number where it is 4 at most
   pub as-sheet : sheetNumber s ≤ 4 → firstFailed (shapeTests s) ≡ sheetNumber s
   -- where a run refuses rows or deal (5 to 8), none of 1 to 4 refuses
   pub rows-refused : 5 ≤ sheetNumber s → sheetNumber s ≤ 8 → Shaped s
