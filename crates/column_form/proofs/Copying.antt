@@ -11,7 +11,7 @@ use lib.Seq.{sets-eq, drop-cons, drop-drop}
 use Rattle.algebra.specs.Lists.{onto, ontoAt}
 use Rattle.algebra.proofs.Lists.{Writing, writing-length, length-onto, onto-at-start, onto-at-then}
 use Rattle.model.specs.Columns.{sharesFrom}
-use Rattle.model.proofs.Turning.{length-shares}
+use Rattle.model.proofs.Transposing.{length-shares}
 
 -- `copy_front`: there is room for the next byte
 pub front-room : {vs xs : List ℕ} {n j : ℕ} {l : List ℕ} → Writing vs xs n j l → n ≤ length vs → n ≤ length xs → j < n → j < length l

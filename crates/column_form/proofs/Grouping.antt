@@ -11,8 +11,8 @@ use lib.ListN.{length, take, drop, length-drop}
 use lib.Seq.{length-take-le}
 use Rattle.algebra.specs.Lists.{onto}
 use Rattle.algebra.proofs.Lists.{length-onto, onto-then}
-use Rattle.model.specs.Columns.{sharesFrom, regrouped, turnedOver}
-use Rattle.model.proofs.Turning.{length-regrouped}
+use Rattle.model.specs.Columns.{sharesFrom, regrouped, transposed}
+use Rattle.model.proofs.Transposing.{length-regrouped}
 
 -- one group more at the end
 groups-more : (s : List ℕ) (groups size i k : ℕ)
@@ -76,7 +76,7 @@ module _ {s : List ℕ} {i groups size : ℕ} {xs : List ℕ} {from to k : ℕ} 
 
 -- `turn_over`: the bytes before the groups, and then the groups
 pub turned-written : (s : List ℕ) (i groups size : ℕ) (xs ys : List ℕ) {last : List ℕ} → length s ≡ i + 4 * size * groups → ys ≡ onto (take i s) xs
-    → last ≡ onto (regrouped s groups size i size) (midOf i (length ys - i) ys) → putMid i (length ys - i) ys last ≡ onto (turnedOver s i groups size) xs
-unfolding turnedOver
+    → last ≡ onto (regrouped s groups size i size) (midOf i (length ys - i) ys) → putMid i (length ys - i) ys last ≡ onto (transposed s i groups size) xs
+unfolding transposed
 turned-written s i groups size xs ys {last} whole head =
     onto-then xs (take i s) (regrouped s groups size i size) ys last i head (length-take-le i s (omega arith))

@@ -10,7 +10,7 @@ use lib.Dec.{eqb}
 use lib.ListN.{length}
 use Rattle.model.specs.Sheet.{headerOf, impliedLength, headerTests, limitTests, lengthTests}
 use Rattle.algebra.specs.Lists.{onto}
-use Rattle.model.specs.Columns.{turnedOver, columnForm, sheetForm, wholeTests, outputTests, turnTests, turnNumber, outputLeft}
+use Rattle.model.specs.Columns.{transposed, columnForm, sheetForm, shapeTests, outputTests, turnTests, turnNumber, outputLeft}
 use Rattle.model.proofs.Trying.{given-done, given-refused, passes, fails, nothing-left, told}
 use Rattle.sheet.specs.Framed.{Headed, Framed}
 use Rattle.sheet.specs.Reading.{Reads}
@@ -61,7 +61,7 @@ module _ (s : List ℕ) {f : Frame} (H : Headed (headerOf s) f) (room : ℕ) {a 
 
 -- all tests: those of the header, and then of the lengths
 by-lengths : (s : List ℕ) (room : ℕ) → turnTests s room ≡ headerTests s ++ limitTests (headerOf s) ++ (lengthTests (headerOf s) s ++ outputTests s room)
-unfolding wholeTests turnTests
+unfolding shapeTests turnTests
 by-lengths s room =
     let h = headerOf s in
     ap (λ (x : List (Bool × ℕ)). x ++ outputTests s room) (sym (append-assoc (headerTests s) (limitTests h) (lengthTests h s)))
@@ -79,11 +79,11 @@ module _ (s : List ℕ) {r : Read} (A : Reads (headerTests s ++ limitTests (head
 
 -- the forms, by where the shares stand
 module _ {s : List ℕ} {room : ℕ} {l : Layout} (S : Stands s room l) where
-  columns-made : turnedOver s (l .place) (l .rows) (l .parties) ≡ columnForm s
+  columns-made : transposed s (l .place) (l .rows) (l .parties) ≡ columnForm s
   unfolding columnForm
   columns-made = rw (S .place, S .rows, S .parties)
 
-  sheet-made : turnedOver s (l .place) (l .parties) (l .rows) ≡ sheetForm s
+  sheet-made : transposed s (l .place) (l .parties) (l .rows) ≡ sheetForm s
   unfolding sheetForm
   sheet-made = rw (S .place, S .rows, S .parties)
 
@@ -93,10 +93,10 @@ module _ (s out : List ℕ) {l : Layout} (L : Laid (turnTests s (length out)) s 
   unfolding outputLeft
   form-left form z = sym (given-done (turnNumber s out) (onto (form s) out) out (sym (L .number) ∙ z))
 
-  pub columns-left : {left : List ℕ} → l .number ≡ 0 → left ≡ onto (turnedOver s (l .place) (l .rows) (l .parties)) out → left ≡ outputLeft columnForm s out
+  pub columns-left : {left : List ℕ} → l .number ≡ 0 → left ≡ onto (transposed s (l .place) (l .rows) (l .parties)) out → left ≡ outputLeft columnForm s out
   columns-left z e = e ∙ ap (λ (x : List ℕ). onto x out) (columns-made (L .stands z)) ∙ form-left columnForm z
 
-  pub sheet-left : {left : List ℕ} → l .number ≡ 0 → left ≡ onto (turnedOver s (l .place) (l .parties) (l .rows)) out → left ≡ outputLeft sheetForm s out
+  pub sheet-left : {left : List ℕ} → l .number ≡ 0 → left ≡ onto (transposed s (l .place) (l .parties) (l .rows)) out → left ≡ outputLeft sheetForm s out
   sheet-left z e = e ∙ ap (λ (x : List ℕ). onto x out) (sheet-made (L .stands z)) ∙ form-left sheetForm z
 
   pub left-alone : (form : List ℕ → List ℕ) → (l .number ≡ 0 → ⊥) → out ≡ outputLeft form s out

@@ -1,4 +1,4 @@
--- What a layout says of the bytes that are turned over.
+-- What a layout says of the bytes that are turned.
 -- Assumes nothing.
 use mathlib.Core.Path.{_≡_}
 use mathlib.Core.Bool.{Bool}

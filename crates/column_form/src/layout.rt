@@ -49,7 +49,7 @@ fn by_lengths(s: &[u8], f: Frame, room: usize) -> Layout
     }
 }
 
-// The layout of bytes that are turned over into an output of so many places: "1 to 4 as in the paper", then 15.
+// The layout of the bytes that are turned, for an output of so many places: "1 to 4 as in the paper", then 15.
 pub fn find(s: &[u8], room: usize) -> Layout
     ensures { λ r. ⌜ Laid (turnTests (now (s .entry)) room) (now (s .entry)) room r ⌝ }
 {

@@ -3,7 +3,7 @@ ghost use mathlib.Core.Path.{_≡_};
 ghost use Prim.Native.Nat.{_+_, _*_, _≤_};
 ghost use lib.ListN.{length, take, drop};
 ghost use Rattle.algebra.specs.Lists.{onto, ontoAt};
-ghost use Rattle.model.specs.Columns.{sharesFrom, regrouped, turnedOver};
+ghost use Rattle.model.specs.Columns.{sharesFrom, regrouped, transposed};
 
 // The first bytes, so many of them.
 fn copy_front(s: &[u8], count: usize, out: &mut [u8])
@@ -66,7 +66,7 @@ fn copy_groups(s: &[u8], i: usize, groups: usize, size: usize, out: &mut [u8])
 // The bytes before place i as they are, and then the groups turned over.
 pub fn turn_over(s: &[u8], i: usize, groups: usize, size: usize, out: &mut [u8])
     requires { ⌜ (length (now s) ≡ i + 4 * size * groups) × (length (now s) ≤ length (now out)) × (length (now s) ≤ 59723) × (groups ≤ 2096) × (size ≤ 2096) ⌝ }
-    ensures { λ _. ⌜ now (out .exit) ≡ onto (turnedOver (now (s .entry)) i groups size) (now (out .entry)) ⌝ }
+    ensures { λ _. ⌜ now (out .exit) ≡ onto (transposed (now (s .entry)) i groups size) (now (out .entry)) ⌝ }
 {
     copy_front(s, i, out);
     copy_groups(s, i, groups, size, &mut out[i..]);

@@ -12,14 +12,16 @@ use lib.Dec.{eqb}
 use lib.ListN.{length, take, length-take}
 use lib.Seq.{getD-take}
 use Rattle.model.specs.Bytes.{number}
-use Rattle.model.specs.Fields.{bits, inUse, fieldTests, settingTests}
+use Rattle.model.specs.Fields.{bits, inUse, parties, fieldTests, settingTests}
 use Rattle.model.specs.Refusing.{firstFailed}
 use Rattle.model.specs.Sheet.{Header, headerOf, headerSize, maskBits, limits, impliedLength, headerTests, limitTests, lengthTests, sheetTests, sheetNumber, Permitted, settingOf}
 use Rattle.model.specs.Run.{Outcome, refusedInput, outcome, stopOf, run}
+use Rattle.model.specs.Columns.{shapeTests, turnNumber}
 use Rattle.model.specs.Exactness.{Accepted}
-use Rattle.model.proofs.Trying.{given-refused, passes, fails, numbered, holding, all-hold, after, setting-numbered, setting-field, setting-people}
+use Rattle.model.proofs.Trying.{upTo, number-most, given-refused, passes, fails, numbered, holding, all-hold, after, setting-numbered, setting-field, setting-people}
 use Rattle.model.proofs.Lengths.{length-most}
 use Rattle.model.proofs.Acceptance.{sound}
+use Rattle.model.proofs.ColumnForms.{every-form}
 use Rattle.figures.specs.Room.{largestSheet, largestHeader, longNumber, LargestSheet}
 
 most : (h : Header) → Permitted h → impliedLength h ≤ largestSheet
@@ -108,5 +110,17 @@ longer s log revealed l =
     let e = long-run s log revealed l in
     (ap (λ (x : Outcome). x .number) e, ap (λ (x : Outcome). x .place) e)
 
+-- the column form answers 1 to 4 as a run does
+long-most : (h : Header) → longNumber h ≤ 4
+unfolding upTo
+long-most h = number-most 4 ((inUse (h .field), 2) ∷ (parties (h .n) (h .t), 3) ∷ (false, 4) ∷ []) tt
+
+turned : (s out : List ℕ) → largestSheet < length s → turnNumber s out ≡ longNumber (headerOf s)
+turned s out l =
+    let N = every-form .numbers s out in
+    let e = long-sheet s l in
+    let q : firstFailed (shapeTests s) ≡ longNumber (headerOf s) = N .as-sheet (rw e (long-most (headerOf s))) ∙ e in
+    N .first (λ z. long-number (headerOf s) (sym q ∙ z)) ∙ q
+
 pub largest-sheet : LargestSheet
-largest-sheet = record { most = most; permitted = permitted; reached = reached; accepted = accepted; longer = longer; cut = cut }
+largest-sheet = record { most = most; permitted = permitted; reached = reached; accepted = accepted; longer = longer; cut = cut; turned = turned }

@@ -10,6 +10,7 @@ use Rattle.model.specs.Fields.{inUse, parties}
 use Rattle.model.specs.Refusing.{firstFailed}
 use Rattle.model.specs.Sheet.{Header, headerOf, impliedLength, Permitted}
 use Rattle.model.specs.Run.{run}
+use Rattle.model.specs.Columns.{turnNumber}
 use Rattle.model.specs.Exactness.{Accepted}
 
 -- "The program lends a record of 10,850 numbers (7 shares of at most 1,024 + 16 + 510 openings) and a revealed list of 511"
@@ -56,3 +57,5 @@ pub record LargestSheet : Type 0 where
       → (run sheet log revealed .number ≡ longNumber (headerOf sheet)) × (run sheet log revealed .place ≡ 0)
   -- Of a longer input one byte more than the largest sheet has is enough: the whole outcome is that of its first 59,724 bytes.
   pub cut : (sheet log revealed : List ℕ) → largestSheet < length sheet → run (take (suc largestSheet) sheet) log revealed ≡ run sheet log revealed
+  -- "1 to 4 as in the paper": the same number where a longer input is to be turned over or back, whatever the output
+  pub turned : (input out : List ℕ) → largestSheet < length input → turnNumber input out ≡ longNumber (headerOf input)

@@ -18,7 +18,7 @@ use Rattle.model.specs.Sheet.{headerOf, headerSize, maskBits, largestIn,
 use Rattle.model.specs.Commands.{throughLines, registersFrom, command}
 use Rattle.model.specs.Run.{allSet, marked, check, pay, runLines, nothingSpent, start, written, outcome, runScript, stopOf, run}
 use Rattle.model.specs.Calls.{isTEXTDATA, alone, plain, quoted, field, isEnd, fields, readLine, isDigit, allDigits, decimalFrom, time, lasting, call, fourFields, lineAt, lineNumber, taken, imported}
-use Rattle.model.specs.Columns.{sharesFrom, regrouped, turnedOver, columnForm, sheetForm, wholeTests, outputTests, turnTests, outputLeft}
+use Rattle.model.specs.Columns.{sharesFrom, regrouped, transposed, columnForm, sheetForm, shapeTests, outputTests, turnTests, outputLeft, partOf, sharesIn}
 use Rattle.model.specs.CaseForms.{registersSeen, seen, Hold}
 use Rattle.model.specs.SheetCases.{sheetCases}
 use Rattle.model.specs.ScriptCases.{scriptCases}
@@ -27,7 +27,7 @@ use Rattle.model.specs.MaskCases.{maskCases}
 use Rattle.model.specs.EntryCases.{entryCases}
 use Rattle.model.specs.CallCases.{callCases}
 use Rattle.model.specs.ColumnCases.{columnCases}
-use Rattle.model.specs.Cases.{checks, Cases}
+use Rattle.model.specs.Cases.{checks, partsSeen, Cases}
 
 pub sheets-hold : Hold sheetCases
 unfolding byRows add sub mul allBelow from onto tab row modulus bits largestK inUse fieldTests settingTests inverse parties eval share newton reciprocal slope interpolate recover secret sameList isSharing number rowAt byteSays allPass numberAt readingAt scriptFrom scriptOf costBy headerOf headerSize maskBits largestIn limits impliedLength scriptIn rowsAt masksFrom triplesFrom inputIn dealIn all maskRows tripleRows spell secrets goodMask goodTriple firstFailed headerTests limitTests lengthTests rowTests sheetTests bytesOf shareBytes allSet marked check pay command throughLines runLines nothingSpent start written outcome runScript stopOf run registersSeen seen sheetCases
@@ -54,9 +54,9 @@ unfolding onto firstFailed isTEXTDATA alone plain quoted field isEnd fields read
 calls-hold = refl
 
 pub columns-hold : Hold columnCases
-unfolding from onto number modulus bits inUse fieldTests settingTests parties headerOf headerSize maskBits limits impliedLength firstFailed headerTests limitTests lengthTests sharesFrom regrouped turnedOver columnForm sheetForm wholeTests outputTests turnTests outputLeft columnCases
+unfolding from onto number modulus bits inUse fieldTests settingTests parties headerOf headerSize maskBits limits impliedLength firstFailed headerTests limitTests lengthTests sharesFrom regrouped transposed columnForm sheetForm shapeTests outputTests turnTests outputLeft columnCases
 columns-hold = refl
 
 pub cases : Cases
-unfolding from onto firstFailed allSet check checks isTEXTDATA alone plain quoted field isEnd fields readLine isDigit allDigits decimalFrom time lasting call fourFields lineAt lineNumber taken imported
-cases = record { sheets = sheets-hold; scripts = scripts-hold; runs = runs-hold; masked = masked-hold; order = refl; entries = entries-hold; calls = calls-hold; columns = columns-hold; values = refl; plain-names = refl; quoted-names = refl }
+unfolding tab bits number headerOf headerSize maskBits bytesOf shareBytes sharesFrom regrouped transposed columnForm partOf sharesIn partsSeen from onto firstFailed allSet check checks isTEXTDATA alone plain quoted field isEnd fields readLine isDigit allDigits decimalFrom time lasting call fourFields lineAt lineNumber taken imported
+cases = record { sheets = sheets-hold; scripts = scripts-hold; runs = runs-hold; masked = masked-hold; order = refl; entries = entries-hold; calls = calls-hold; columns = columns-hold; parts = refl; values = refl; plain-names = refl; quoted-names = refl }

@@ -61,7 +61,7 @@ pub mod CallReading
 pub mod CallTimes
 pub mod CallRoom
 pub mod CallLists
-pub mod Turning
+pub mod Transposing
 pub mod ColumnParts
 pub mod ColumnForms
 pub mod Cases

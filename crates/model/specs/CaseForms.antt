@@ -4,6 +4,7 @@
 use mathlib.Core.Path.{_≡_}
 use mathlib.Core.Bool.{Bool, true, false, cond}
 use mathlib.Core.List.{List, [], _∷_, _++_, map}
+use mathlib.Core.Option.{Option, none, some}
 use Prim.Native.Nat.{ℕ, suc}
 use lib.IntN.{ℤ, pos}
 use lib.ListN.{length, replicate}
@@ -60,13 +61,14 @@ stopped header script shares number place =
 abbrev pub scripted : ℕ → List ℕ → ℕ → ℕ → Case
 scripted f script number place = stopped (f ∷ 3 ∷ 1 ∷ 0 ∷ 0 ∷ 0 ∷ 0 ∷ 0 ∷ 0 ∷ length script ∷ 0 ∷ []) script [] number place
 
--- what an entry answers, 0 being the value of share and of turning over or back, and the lent list that it leaves, which encode and decode do not have
+-- what an entry answers: the number; the value, which share and turning over or back do not have; and the lent list that it leaves, which encode and
+-- decode do not have
 pub record Answer : Type 0 where
   pub number : ℕ
-  pub value : ℤ
+  pub value : Option ℤ
   pub left : List ℕ
 
-abbrev pub answer : ℕ → ℤ → List ℕ → Answer
+abbrev pub answer : ℕ → Option ℤ → List ℕ → Answer
 answer number value left = record { number = number; value = value; left = left }
 
 -- a call of an entry
@@ -77,23 +79,24 @@ Entry = Told Answer
 abbrev pub shared : ℕ → ℕ → ℕ → ℕ → List ℕ → ℕ → ℕ → List ℕ → Entry
 shared f n t s cs lent number left =
     let out : List ℕ = replicate lent 99 in
-    record { computed = answer (shareNumber f n t s cs out) (pos 0) (shareLeft f n t s cs out); told = answer number (pos 0) left }
+    record { computed = answer (shareNumber f n t s cs out) none (shareLeft f n t s cs out); told = answer number none left }
 
 abbrev pub recovered : ℕ → ℕ → ℕ → List ℕ → ℕ → ℕ → ℤ → List ℕ → Entry
 recovered f n t xs lent number value left =
     let out : List ℕ = replicate lent 99 in
     record {
-      computed = answer (recoverNumber f n t xs out) (pos (recoverValue f n t xs out)) (recoverLeft f n t xs out);
-      told = answer number value left;
+      computed = answer (recoverNumber f n t xs out) (some (pos (recoverValue f n t xs out))) (recoverLeft f n t xs out);
+      told = answer number (some value) left;
     }
 
 -- encode with field, k and number; decode with field and value
 abbrev pub encoded : ℕ → ℕ → ℤ → ℕ → ℤ → Entry
 encoded f k a number value =
-    record { computed = answer (encodeNumber f k a) (pos (encodeValue f k a)) []; told = answer number value [] }
+    record { computed = answer (encodeNumber f k a) (some (pos (encodeValue f k a))) []; told = answer number (some value) [] }
 
 abbrev pub decoded : ℕ → ℕ → ℕ → ℤ → Entry
-decoded f v number value = record { computed = answer (decodeNumber f v) (decodeValue f v) []; told = answer number value [] }
+decoded f v number value =
+    record { computed = answer (decodeNumber f v) (some (decodeValue f v)) []; told = answer number (some value) [] }
 
 -- an import of a list
 abbrev pub CallCase : Type 0
@@ -104,11 +107,11 @@ abbrev pub took : List ℕ → ℕ → ℕ → ℕ → List ℕ → CallCase
 took list lent number calls left =
     record { computed = imported list (replicate lent 99); told = record { number = number; calls = calls; out = left } }
 
--- A call that turns an input over or back: its number, and the whole output after it. The output has this length, and 100 + i stands at place i.
+-- A call that turns an input over or back: "the number alone", and the whole output after it. The output has this length, and 100 + i stands at place i.
 abbrev pub turned : (List ℕ → List ℕ) → List ℕ → ℕ → ℕ → List ℕ → Entry
 turned form s lent number left =
     let out : List ℕ = from 100 lent in
-    record { computed = answer (turnNumber s out) (pos 0) (outputLeft form s out); told = answer number (pos 0) left }
+    record { computed = answer (turnNumber s out) none (outputLeft form s out); told = answer number none left }
 
 -- to the column form, and to the sheet
 abbrev pub asColumns : List ℕ → ℕ → ℕ → List ℕ → Entry

@@ -6,10 +6,12 @@ use mathlib.Core.List.{List, [], _∷_, _++_, map}
 use Prim.Native.Nat.{ℕ}
 use lib.ListN.{replicate}
 use Rattle.algebra.specs.Lists.{from}
+use Rattle.model.specs.Sheet.{headerOf, shareBytes}
 use Rattle.model.specs.Counts.{noCounts}
 use Rattle.model.specs.Costs.{Cost}
 use Rattle.model.specs.Run.{check}
 use Rattle.model.specs.Calls.{found, readLine, imported}
+use Rattle.model.specs.Columns.{columnForm, partOf, sharesIn}
 use Rattle.model.specs.CaseForms.{Hold}
 use Rattle.model.specs.SheetCases.{sheetCases}
 use Rattle.model.specs.ScriptCases.{scriptCases}
@@ -37,6 +39,12 @@ checks =
     ∷ checked true 1 1 1 3 0 ∷ checked true 1 1 1 3 1 ∷ checked false 1 1 1 3 1 ∷ checked true 0 1 1 3 1 ∷ checked true 1 0 1 3 1
     ∷ checked true 1 1 0 3 1 ∷ checked true 1 1 1 2 1 ∷ []
 
+-- the shares in the parts of a sheet's column form, party 1's first
+unfoldable pub partsSeen : List ℕ → List (List ℕ)
+partsSeen s =
+    let h = headerOf s in
+    map (λ j. sharesIn h (partOf h j (columnForm s))) (from 1 (h .n))
+
 -- Each row of the seven tables computes to what the reference, a separately written program, answers by paper and requests. It writes the tables, and
 -- the proved programs `cases`, `entries`, `call_cases` and `column_cases` answer the same sheets, calls, lists and inputs.
 pub record Cases : Type 0 where
@@ -48,6 +56,10 @@ pub record Cases : Type 0 where
   pub entries : Hold entryCases
   pub calls : Hold callCases
   pub columns : Hold columnCases
+  -- "all of party 1's shares (inputs, masks, triples in sheet order), then party 2's, and so on": of three parties, a script of two bytes, one input row,
+  -- one mask of 4 rows and one triple, with the shares 1 to 24 in the sheet's order
+  pub parts : partsSeen (0 ∷ 3 ∷ 1 ∷ 1 ∷ 0 ∷ 1 ∷ 0 ∷ 1 ∷ 0 ∷ 2 ∷ 0 ∷ 201 ∷ 202 ∷ shareBytes (from 1 24))
+      ≡ (1 ∷ 4 ∷ 7 ∷ 10 ∷ 13 ∷ 16 ∷ 19 ∷ 22 ∷ []) ∷ (2 ∷ 5 ∷ 8 ∷ 11 ∷ 14 ∷ 17 ∷ 20 ∷ 23 ∷ []) ∷ (3 ∷ 6 ∷ 9 ∷ 12 ∷ 15 ∷ 18 ∷ 21 ∷ 24 ∷ []) ∷ []
   -- the values of fields, of which an import shows the times alone: "a""b","<CR><LF>,"<CR><LF>c
   pub values : readLine (34 ∷ 97 ∷ 34 ∷ 34 ∷ 98 ∷ 34 ∷ 44 ∷ 34 ∷ 13 ∷ 10 ∷ 44 ∷ 34 ∷ 13 ∷ 10 ∷ 99 ∷ [])
       ≡ found ((97 ∷ 34 ∷ 98 ∷ []) ∷ (13 ∷ 10 ∷ 44 ∷ []) ∷ []) (13 ∷ 10 ∷ 99 ∷ [])

@@ -2,65 +2,67 @@
 -- Assumes nothing.
 use mathlib.Core.Bool.{Bool}
 use mathlib.Core.List.{List, [], _∷_, _++_, map}
-use Prim.Native.Nat.{ℕ, zero, suc, _+_, _*_}
+use Prim.Native.Nat.{ℕ, zero, suc, _+_, _*_, _-_}
 use lib.Dec.{leb}
-use lib.ListN.{length, getD, take, drop}
+use lib.ListN.{length, take, drop}
 use Rattle.algebra.specs.Lists.{onto}
 use Rattle.algebra.specs.Rows.{tab}
 use Rattle.model.specs.Refusing.{firstFailed, given}
+use Rattle.model.specs.Sharing.{at}
 use Rattle.model.specs.Bytes.{number}
 use Rattle.model.specs.Deal.{Row}
 use Rattle.model.specs.Sheet.{Header, headerOf, inputsAt, rowCount, inputIn, dealIn, dealRows, headerTests, limitTests, lengthTests}
 
--- so many shares, each of 4 bytes: the first at place i, each other step bytes behind the one before it
+-- `count` shares of 4 bytes: the first at place i, each next one `step` bytes further on
 unfoldable pub sharesFrom : List ℕ → ℕ → ℕ → ℕ → List ℕ
 sharesFrom s step i zero = []
 sharesFrom s step i (suc count) = take 4 (drop i s) ++ sharesFrom s step (i + step) count
 
--- From place i on s has groups of size shares: share 1 of each group, then share 2 of each, and so on up to share k.
+-- From place i on, s has `groups` groups, each of `size` shares: share 1 of each, then share 2 of each, and so on up to share k.
 unfoldable pub regrouped : List ℕ → (groups size : ℕ) → ℕ → ℕ → List ℕ
 regrouped s groups size i zero = []
 regrouped s groups size i (suc k) = sharesFrom s (4 * size) i groups ++ regrouped s groups size (i + 4) k
 
--- the bytes before place i as they are, and then the groups turned over: as many as a group had shares, each with one share of every group
-unfoldable pub turnedOver : List ℕ → ℕ → (groups size : ℕ) → List ℕ
-turnedOver s i groups size = take i s ++ regrouped s groups size i size
+-- the bytes before place i as they are, and then the groups transposed: as many as a group had shares, each with one share of every group
+unfoldable pub transposed : List ℕ → ℕ → (groups size : ℕ) → List ℕ
+transposed s i groups size = take i s ++ regrouped s groups size i size
 
 -- "the same header and script, then all of party 1's shares (inputs, masks, triples in sheet order), then party 2's, and so on". A sheet's groups are
 -- its rows, of n shares.
 unfoldable pub columnForm : List ℕ → List ℕ
 columnForm s =
     let h = headerOf s in
-    turnedOver s (inputsAt h) (rowCount h) (h .n)
+    transposed s (inputsAt h) (rowCount h) (h .n)
 
 -- "Turning a sheet over and back": the column form's groups are the parties' parts, of a share for each row
 unfoldable pub sheetForm : List ℕ → List ℕ
 sheetForm c =
     let h = headerOf c in
-    turnedOver c (inputsAt h) (h .n) (rowCount h)
+    transposed c (inputsAt h) (h .n) (rowCount h)
 
--- "all of party 1's shares (inputs, masks, triples in sheet order), then party 2's, and so on". Columns count from 0: column j is party j + 1's. How
--- long a party's part of the column form is, where it begins, and the part itself:
+-- The shares of one party in the column form are its part. Parties count from 1, as in the paper: "column j held by party j (1 to n)". How long a part
+-- is, where party j's part begins, and the part itself:
 abbrev pub partLength : Header → ℕ
 partLength h = 4 * rowCount h
 
 abbrev pub partAt : Header → ℕ → ℕ
-partAt h j = inputsAt h + j * partLength h
+partAt h j = inputsAt h + (j - 1) * partLength h
 
 unfoldable pub partOf : Header → ℕ → List ℕ → List ℕ
 partOf h j c = take (partLength h) (drop (partAt h j) c)
 
--- the shares in a part, as numbers
+-- The shares in a part, as numbers, "inputs, masks, triples in sheet order". Counted from 0, the inputs begin at 0; the masks at h .inputs, each of
+-- maskBits h shares, bit 0 first; the triples at h .inputs + maskBits h * h .masks, each of three shares, of a, b and c.
 unfoldable pub sharesIn : Header → List ℕ → List ℕ
 sharesIn h part = tab (rowCount h) (λ i. number 4 part (4 * i))
 
--- column j of a sheet: of the input rows, of the masks' rows and of the triples' rows
+-- column j of a sheet: party j's share of each input row, of each mask's rows and of each triple's rows
 unfoldable pub columnIn : Header → ℕ → List ℕ → List ℕ
-columnIn h j s = map (λ (x : Row). getD x j 0) (inputIn h s ++ dealRows (dealIn h s))
+columnIn h j s = map (λ (x : Row). at 0 x j) (inputIn h s ++ dealRows (dealIn h s))
 
 -- "1 to 4 as in the paper"; "Only the header and length are looked at."
-unfoldable pub wholeTests : List ℕ → List (Bool × ℕ)
-wholeTests s = headerTests s ++ (limitTests (headerOf s) ++ lengthTests (headerOf s) s)
+unfoldable pub shapeTests : List ℕ → List (Bool × ℕ)
+shapeTests s = headerTests s ++ (limitTests (headerOf s) ++ lengthTests (headerOf s) s)
 
 -- "15, the output buffer is shorter than the sheet": the output is the lent list, of so many places
 unfoldable pub outputTests : List ℕ → ℕ → List (Bool × ℕ)
@@ -68,7 +70,7 @@ outputTests s room = (leb (length s) room, 15) ∷ []
 
 -- "1 to 4 as in the paper; then 15"
 unfoldable pub turnTests : List ℕ → ℕ → List (Bool × ℕ)
-turnTests s room = wholeTests s ++ outputTests s room
+turnTests s room = shapeTests s ++ outputTests s room
 
 -- "Answers, the number alone", of either entry
 abbrev pub turnNumber : List ℕ → List ℕ → ℕ

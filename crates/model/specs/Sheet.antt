@@ -1,4 +1,5 @@
--- The paper, "The sheet" and "Refused because of the input": header, rows, the refusals 1 to 8, and a sheet's bytes made of its parts.
+-- The paper, "The sheet" and "Refused because of the input": header, rows, the refusals 1 to 8, and a sheet's bytes made of header, script,
+-- input and deal.
 -- A sheet, the paper's term, is the bytes of header, script, input rows and deal.
 -- Assumes nothing.
 use mathlib.Core.Bool.{Bool, true, _&&_}

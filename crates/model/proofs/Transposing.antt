@@ -1,4 +1,4 @@
--- Laws of `turnedOver`: where each share stands, that no other list has them there, and so that turning over and back undo each other.
+-- Laws of `transposed`: where each share stands, that no other list has them there, and so that transposing again gives the list back.
 -- Assumes nothing.
 use mathlib.Core.Path.{_≡_, refl, sym, ap, ap₂, _∙_}
 use mathlib.Core.List.{List, _++_}
@@ -7,7 +7,7 @@ use native.Mathlib.Nat.{add-zero, mul-zero}
 use native.Mathlib.Omega.{arith}
 use lib.ListN.{length, take, drop, length-append, length-drop, drop-of-length-le, take-append-drop}
 use lib.Seq.{length-take-le, take-at, drop-at, take-add, drop-drop, take-append-le, drop-append-le}
-use Rattle.model.specs.Columns.{sharesFrom, regrouped, turnedOver}
+use Rattle.model.specs.Columns.{sharesFrom, regrouped, transposed}
 
 -- four bytes from place i on
 length-share : (s : List ℕ) (i : ℕ) → i + 4 ≤ length s → length (take 4 (drop i s)) ≡ 4
@@ -86,23 +86,23 @@ module _ (s : List ℕ) (groups size : ℕ) where
       rw (e, q, ← drop-drop, drop-at first (regrouped s groups size (i + 4) k) (4 * groups) long) (regrouped-at (i + 4) k g j (omega arith) lg (omega arith))
 
 -- c has from place i on size groups, of a share from each of the groups of s: the same share at both places
-pub record Turns (i groups size : ℕ) (s c : List ℕ) : Type 0 where
+pub record Transposes (i groups size : ℕ) (s c : List ℕ) : Type 0 where
   pub same-length : length c ≡ length s
   pub head : take i c ≡ take i s
   pub shares : (g j : ℕ) → g < groups → j < size → take 4 (drop (i + 4 * (groups * j + g)) c) ≡ take 4 (drop (i + 4 * (size * g + j)) s)
 
 -- the other way round it is the same
-pub turns-back : {i groups size : ℕ} {s c : List ℕ} → Turns i groups size s c → Turns i size groups c s
-turns-back T = record { same-length = sym (T .same-length); head = sym (T .head); shares = λ g j lg lj. sym (T .shares j g lj lg) }
+pub transposes-back : {i groups size : ℕ} {s c : List ℕ} → Transposes i groups size s c → Transposes i size groups c s
+transposes-back T = record { same-length = sym (T .same-length); head = sym (T .head); shares = λ g j lg lj. sym (T .shares j g lj lg) }
 
 -- s has groups of shares from place i on, and nothing behind them
 module _ (s : List ℕ) (i groups size : ℕ) (whole : length s ≡ i + 4 * size * groups) where
   length-front : length (take i s) ≡ i
   length-front = length-take-le i s (omega arith)
 
-  pub turns : Turns i groups size s (turnedOver s i groups size)
-  unfolding turnedOver
-  turns =
+  pub transposes : Transposes i groups size s (transposed s i groups size)
+  unfolding transposed
+  transposes =
       record {
         same-length = rw (length-append, length-front, length-regrouped s groups size i size (omega arith)) (omega arith);
         head = take-at (take i s) (regrouped s groups size i size) i length-front;
@@ -110,7 +110,7 @@ module _ (s : List ℕ) (i groups size : ℕ) (whole : length s ≡ i + 4 * size
             rw (← drop-drop, drop-at (take i s) (regrouped s groups size i size) i length-front) (regrouped-at s groups size i size g j (omega arith) lg lj);
       }
 
-  module _ (c : List ℕ) (T : Turns i groups size s c) where
+  module _ (c : List ℕ) (T : Transposes i groups size s c) where
     -- from the group after j others on
     rest-is : (j k : ℕ) → j + k ≡ size → drop (i + 4 * groups * j) c ≡ regrouped s groups size (i + 4 * j) k
     unfolding regrouped
@@ -133,16 +133,16 @@ module _ (s : List ℕ) (i groups size : ℕ) (whole : length s ≡ i + 4 * size
             rw (a, b) at (T .shares g j lg (omega arith))
 
     -- there is no other list
-    pub turned-is : c ≡ turnedOver s i groups size
-    unfolding turnedOver
-    turned-is =
+    pub transposed-is : c ≡ transposed s i groups size
+    unfolding transposed
+    transposed-is =
         let e : i + 4 * groups * 0 ≡ i = omega arith in
         let q : i + 4 * 0 ≡ i = omega arith in
         sym (take-append-drop i c) ∙ ap₂ {C = List ℕ} _++_ (T .head) (rw (e, q) at (rest-is 0 size (omega arith)))
 
--- over and back
-pub undone : (s : List ℕ) (i groups size : ℕ) → length s ≡ i + 4 * size * groups → turnedOver (turnedOver s i groups size) i size groups ≡ s
+-- transposed again, by as many groups as a group had shares
+pub undone : (s : List ℕ) (i groups size : ℕ) → length s ≡ i + 4 * size * groups → transposed (transposed s i groups size) i size groups ≡ s
 undone s i groups size whole =
-    let T = turns s i groups size whole in
+    let T = transposes s i groups size whole in
     let l = T .same-length in
-    sym (turned-is (turnedOver s i groups size) i size groups (omega arith) s (turns-back T))
+    sym (transposed-is (transposed s i groups size) i size groups (omega arith) s (transposes-back T))
