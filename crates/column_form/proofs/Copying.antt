@@ -1,17 +1,17 @@
--- The loops that copy bytes as they are, and shares from one group after the other.
+-- The loops that copy bytes as they are, and one party's shares.
 -- Assumes nothing.
 use mathlib.Core.Path.{_≡_, refl, sym, ap, _∙_}
-use mathlib.Core.List.{List, [], _∷_, _++_, append-assoc, append-nil}
+use mathlib.Core.List.{List, [], _∷_, _++_, append-assoc}
 use Prim.Native.Nat.{ℕ, zero, suc, _+_, _*_, _^_, _≤_, _<_}
-use native.Mathlib.Nat.{le-refl, add-zero, mul-zero, mul-le-mul}
 use native.Mathlib.Numerals.{add-one}
 use native.Mathlib.Omega.{arith}
-use lib.ListN.{length, getD, set, take, drop}
-use lib.Seq.{sets-eq, drop-cons, drop-drop}
+use lib.ListN.{length, getD, set, take, drop, length-drop}
+use lib.Seq.{sets-eq, drop-cons, drop-drop, length-take-le}
 use Rattle.algebra.specs.Lists.{onto, ontoAt}
-use Rattle.algebra.proofs.Lists.{Writing, writing-length, length-onto, onto-at-start, onto-at-then}
-use Rattle.model.specs.Columns.{sharesFrom}
-use Rattle.model.proofs.Transposing.{length-shares}
+use Rattle.algebra.proofs.Lists.{Writing, writing-length, length-onto-at}
+use Rattle.column_form.specs.Grids.{placeIn, Fits, columnCopied}
+use Rattle.column_form.specs.declared.grid.Grid.{Grid}
+use Rattle.column_form.proofs.Places.{within}
 
 -- `copy_front`: there is room for the next byte
 pub front-room : {vs xs : List ℕ} {n j : ℕ} {l : List ℕ} → Writing vs xs n j l → n ≤ length vs → n ≤ length xs → j < n → j < length l
@@ -41,62 +41,56 @@ share-copied s out from to h k =
     rw (four s from h, one from, two from, three from, one to, two to, three to)
     (sets-eq vs out to k ∙ append-assoc (take to out) vs _ ∙ ap (λ (x : List ℕ). take to out ++ (vs ++ x)) (sym (drop-drop 4 to out)))
 
--- one share more at the end
-shares-more : (s : List ℕ) (step i count : ℕ) → sharesFrom s step i (suc count) ≡ sharesFrom s step i count ++ take 4 (drop (i + step * count) s)
-unfolding sharesFrom
-shares-more s step i zero = rw (mul-zero, add-zero) (append-nil _)
-shares-more s step i (suc count) =
-    let e : i + step * suc count ≡ i + step + step * count = omega arith in
-    rw e (ap (λ (x : List ℕ). take 4 (drop i s) ++ x) (shares-more s step (i + step) count) ∙ sym (append-assoc (take 4 (drop i s)) _ _))
+-- c keeps its length
+pub column-length : (s : List ℕ) (F G : Grid) (rows : ℕ) (c : List ℕ) → Fits F rows 1 (length s) → Fits G rows 1 (length s) → length s ≤ length c
+    → (k : ℕ) → k ≤ rows → length (columnCopied s F G k c) ≡ length c
+unfolding columnCopied
+column-length s F G rows c f g room zero h = refl
+column-length s F G rows c f g room (suc k) h =
+    let e = column-length s F G rows c f g room k (omega arith) in
+    length-onto-at (placeIn G k 0) _ _
+    (rw (length-take-le 4 (drop (placeIn F k 0) s) (rw length-drop (omega (arith, within f k 0 h (omega arith))))) (omega (arith, e, within g k 0 h (omega arith))))
+    ∙ e
 
--- a write right behind another
-onto-next : (us vs xs : List ℕ) (n : ℕ) → length us ≡ n → ontoAt n vs (onto us xs) ≡ onto (us ++ vs) xs
-onto-next us vs xs n e =
-    let z : n ≡ 0 + length us = omega (arith, e) in
-    rw z (ap (ontoAt (0 + length us) vs) (sym (onto-at-start us xs)) ∙ onto-at-then 0 us vs xs ∙ onto-at-start (us ++ vs) xs)
+-- After k turns of `copy_column` out has k shares; the next is at place read, and goes to place write.
+pub record ColumnLoop (s : List ℕ) (F G : Grid) (rows : ℕ) (xs : List ℕ) (read write k : ℕ) (out : List ℕ) : Type 0 where
+  pub within-rows : k ≤ rows
+  pub read-is : read ≡ placeIn F k 0
+  pub write-is : write ≡ placeIn G k 0
+  pub is : out ≡ columnCopied s F G k xs
 
--- After k turns of `copy_shares` out has k shares over the start of xs; the next is at place from, and goes to place to.
-pub record Copying (s : List ℕ) (i step count : ℕ) (xs : List ℕ) (from to k : ℕ) (out : List ℕ) : Type 0 where
-  pub within : k ≤ count
-  pub from-is : from ≡ i + step * k
-  pub to-is : to ≡ 4 * k
-  pub is : out ≡ onto (sharesFrom s step i k) xs
+pub column-start : (s : List ℕ) (F G : Grid) (rows : ℕ) (xs : List ℕ) → ColumnLoop s F G rows xs (F .first) (G .first) 0 xs
+unfolding columnCopied
+column-start s F G rows xs = record { within-rows = omega arith; read-is = omega arith; write-is = omega arith; is = refl }
 
-pub copying-start : (s : List ℕ) (i step count : ℕ) (xs : List ℕ) → Copying s i step count xs i 0 0 xs
-unfolding sharesFrom onto
-copying-start s i step count xs = record { within = omega arith; from-is = omega arith; to-is = refl; is = refl }
-
-module _ {s : List ℕ} {i step count : ℕ} {xs : List ℕ} {from to k : ℕ} {out : List ℕ} (C : Copying s i step count xs from to k out)
-    (reads : i + step * count + 4 ≤ length s + step) (room : 4 * count ≤ length xs) where
-  turns-most : step * k ≤ step * count
-  turns-most = mul-le-mul {n₂ = step} {m₂ = count} (le-refl step) (C .within)
-
-  length-copied : length (sharesFrom s step i k) ≡ 4 * k
-  length-copied = length-shares s step i k (omega (arith, turns-most))
-
-  pub copying-length : length out ≡ length xs
-  copying-length = ap length (C .is) ∙ length-onto (sharesFrom s step i k) xs (omega (arith, length-copied, C .within))
+module _ {s : List ℕ} {F G : Grid} {rows : ℕ} {xs : List ℕ} {read write k : ℕ} {out : List ℕ} (L : ColumnLoop s F G rows xs read write k out)
+    (f : Fits F rows 1 (length s)) (g : Fits G rows 1 (length s)) (room : length s ≤ length xs) where
+  pub loop-length : length out ≡ length xs
+  loop-length = ap length (L .is) ∙ column-length s F G rows xs f g room k (L .within-rows)
 
   -- the next share stands within s, and there is room for it
-  pub copying-reads : k < count → from + 4 ≤ length s
-  copying-reads h = omega (arith, C .from-is, mul-le-mul {n₂ = step} {m₂ = count} (le-refl step) h)
+  pub loop-reads : k < rows → read + 4 ≤ length s
+  loop-reads h = omega (arith, L .read-is, within f k 0 h (omega arith))
 
-  pub copying-fits : k < count → length s + step ≤ 68107 → from + step < 2 ^ 64
-  copying-fits h m = omega (arith, copying-reads h)
+  pub loop-writes : k < rows → write + 4 ≤ length out
+  loop-writes h = omega (arith, L .write-is, loop-length, within g k 0 h (omega arith))
 
-  pub copying-room : k < count → to + 4 ≤ length out
-  copying-room h = omega (arith, C .to-is, copying-length)
+  pub loop-reads-on : k < rows → read + F .row < 2 ^ 64
+  loop-reads-on h = omega (arith, loop-reads h, f .steps, f .most)
 
-  pub copying-more : {next : List ℕ} → k < count → next ≡ ontoAt to (take 4 (drop from s)) out → Copying s i step count xs (from + step) (to + 4) (k + 1) next
-  copying-more {next} h e =
+  pub loop-writes-on : k < rows → write + G .row < 2 ^ 64
+  loop-writes-on h = omega (arith, L .write-is, within g k 0 h (omega arith), g .steps, g .most)
+
+  pub loop-more : {next : List ℕ} → k < rows → next ≡ ontoAt write (take 4 (drop read s)) out
+      → ColumnLoop s F G rows xs (read + F .row) (write + G .row) (k + 1) next
+  unfolding columnCopied
+  loop-more {next} h e =
       record {
-        within = omega arith;
-        from-is = omega (arith, C .from-is);
-        to-is = omega (arith, C .to-is);
-        is =
-            rw (e, C .to-is, C .from-is, C .is, add-one, shares-more s step i k)
-            (onto-next (sharesFrom s step i k) (take 4 (drop (i + step * k) s)) xs (4 * k) length-copied);
+        within-rows = omega arith;
+        read-is = omega (arith, L .read-is);
+        write-is = omega (arith, L .write-is);
+        is = rw (e, L .write-is, L .read-is, L .is, add-one);
       }
 
-  pub copying-end : count ≤ k → out ≡ onto (sharesFrom s step i count) xs
-  copying-end h = let e : k ≡ count = omega (arith, C .within) in rw e at (C .is)
+  pub loop-end : rows ≤ k → out ≡ columnCopied s F G rows xs
+  loop-end h = let e : k ≡ rows = omega (arith, L .within-rows) in rw e at (L .is)

@@ -1,5 +1,6 @@
 // The column form of a sheet and the way back: "the same header and script, then all of party 1's shares (inputs, masks, triples in sheet order),
 // then party 2's, and so on".
+mod grid;
 mod layout;
 mod shares;
 
@@ -23,7 +24,7 @@ pub fn to_sheet(columns: &[u8], sheet: &mut [u8]) -> u32
 {
     let found = layout::find(columns, sheet.len());
     if found.number == 0 {
-        shares::turn_over(columns, found.place, found.parties, found.rows, sheet);
+        shares::turn_back(columns, found.place, found.rows, found.parties, sheet);
     }
     found.number
 }

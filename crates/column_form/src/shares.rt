@@ -1,9 +1,15 @@
-// Header and script copied as they are, and shares from group to group. No share is looked at: each is four bytes.
+// Header and script copied as they are, and shares from one grid to another. No share is looked at: each is four bytes.
 ghost use mathlib.Core.Path.{_≡_};
 ghost use Prim.Native.Nat.{_+_, _*_, _≤_};
 ghost use lib.ListN.{length, take, drop};
 ghost use Rattle.algebra.specs.Lists.{onto, ontoAt};
-ghost use Rattle.model.specs.Columns.{sharesFrom, regrouped, transposed};
+ghost use Rattle.model.specs.Columns.{transposed};
+ghost use Rattle.column_form.specs.Grids.{Fits, Spaced, columnCopied, rowsCopied, Copied};
+use crate::grid;
+use crate::grid::Grid;
+
+// So many rows are copied, of all parties, before the next rows: they stay in the processor's cache while one party after the other is copied.
+const BLOCK: usize = 256;
 
 // The first bytes, so many of them.
 fn copy_front(s: &[u8], count: usize, out: &mut [u8])
@@ -31,43 +37,83 @@ fn copy_share(s: &[u8], from: usize, out: &mut [u8], to: usize)
     out[to + 3] = d;
 }
 
-// The shares at place i, at i + step, and so on, one behind the other. 68,107 is 59,723 + 4 * 2,096: the largest sheet has 59,723 bytes and 2,096 rows.
-fn copy_shares(s: &[u8], i: usize, step: usize, count: usize, out: &mut [u8])
-    requires { ⌜ (i + step * count + 4 ≤ length (now s) + step) × (4 * count ≤ length (now out)) × (length (now s) + step ≤ 68107) ⌝ }
-    ensures { λ _. ⌜ now (out .exit) ≡ onto (sharesFrom (now (s .entry)) step i count) (now (out .entry)) ⌝ }
+// The first party's shares of so many rows.
+fn copy_column(s: &[u8], from: Grid, out: &mut [u8], to: Grid, rows: usize)
+    requires { ⌜ Fits from rows 1 (length (now s)) × Fits to rows 1 (length (now s)) × (length (now s) ≤ length (now out)) ⌝ }
+    ensures { λ _. ⌜ now (out .exit) ≡ columnCopied (now (s .entry)) from to rows (now (out .entry)) ⌝ }
 {
-    let mut from = i;
-    let mut to = 0;
+    let mut read = from.first;
+    let mut write = to.first;
     let mut k = 0;
-    while k < count {
-        copy_share(s, from, out, to);
-        from += step;
-        to += 4;
+    while k < rows {
+        copy_share(s, read, out, write);
+        read += from.row;
+        write += to.row;
         k += 1;
     }
 }
 
-// Groups of shares from place i on: the first share of each group, then the second of each, and so on.
-fn copy_groups(s: &[u8], i: usize, groups: usize, size: usize, out: &mut [u8])
-    requires { ⌜ (length (now s) ≡ i + 4 * size * groups) × (4 * groups * size ≤ length (now out)) × (length (now s) ≤ 59723) × (groups ≤ 2096) × (size ≤ 2096) ⌝ }
-    ensures { λ _. ⌜ now (out .exit) ≡ onto (regrouped (now (s .entry)) groups size i size) (now (out .entry)) ⌝ }
+// So many rows, of so many parties.
+fn copy_rows(s: &[u8], from: Grid, out: &mut [u8], to: Grid, rows: usize, parties: usize)
+    requires { ⌜ Fits from rows parties (length (now s)) × Fits to rows parties (length (now s)) × (length (now s) ≤ length (now out)) ⌝ }
+    ensures { λ _. ⌜ now (out .exit) ≡ rowsCopied (now (s .entry)) from to rows parties (now (out .entry)) ⌝ }
 {
-    let mut from = i;
-    let mut to = 0;
-    let mut k = 0;
-    while k < size {
-        copy_shares(s, from, 4 * size, groups, &mut out[to..]);
-        from += 4;
-        to += 4 * groups;
-        k += 1;
+    let mut read = from;
+    let mut write = to;
+    let mut j = 0;
+    while j < parties {
+        copy_column(s, read, out, write, rows);
+        read = read.further_on(from.party);
+        write = write.further_on(to.party);
+        j += 1;
     }
 }
 
-// The bytes before place i as they are, and then the groups turned over.
-pub fn turn_over(s: &[u8], i: usize, groups: usize, size: usize, out: &mut [u8])
-    requires { ⌜ (length (now s) ≡ i + 4 * size * groups) × (length (now s) ≤ length (now out)) × (length (now s) ≤ 59723) × (groups ≤ 2096) × (size ≤ 2096) ⌝ }
-    ensures { λ _. ⌜ now (out .exit) ≡ onto (transposed (now (s .entry)) i groups size) (now (out .entry)) ⌝ }
+// All rows, block after block.
+fn copy_blocks(s: &[u8], from: Grid, out: &mut [u8], to: Grid, rows: usize, parties: usize)
+    requires { ⌜ Fits from rows parties (length (now s)) × Fits to rows parties (length (now s)) × Spaced to rows parties × (length (now s) ≤ length (now out)) ⌝ }
+    ensures { λ _. ⌜ Copied (now (s .entry)) from to rows parties (now (out .entry)) (now (out .exit)) ⌝ }
 {
-    copy_front(s, i, out);
-    copy_groups(s, i, groups, size, &mut out[i..]);
+    let mut read = from;
+    let mut write = to;
+    let mut left = rows;
+    while BLOCK < left {
+        copy_rows(s, read, out, write, BLOCK, parties);
+        read = read.further_on(BLOCK * from.row);
+        write = write.further_on(BLOCK * to.row);
+        left -= BLOCK;
+    }
+    copy_rows(s, read, out, write, left, parties);
+}
+
+// A sheet to its column form.
+pub fn turn_over(s: &[u8], place: usize, rows: usize, parties: usize, out: &mut [u8])
+    requires { ⌜ (length (now s) ≡ place + 4 * parties * rows) × (length (now s) ≤ length (now out)) × (length (now s) ≤ 59723) × (rows ≤ 2096) × (parties ≤ 7) ⌝ }
+    ensures { λ _. ⌜ now (out .exit) ≡ onto (transposed (now (s .entry)) place rows parties) (now (out .entry)) ⌝ }
+{
+    copy_front(s, place, out);
+    copy_blocks(
+        s,
+        grid::by_rows(place, parties),
+        out,
+        grid::by_parts(place, rows),
+        rows,
+        parties,
+    );
+}
+
+// A column form to its sheet.
+pub fn turn_back(s: &[u8], place: usize, rows: usize, parties: usize, out: &mut [u8])
+    requires { ⌜ (length (now s) ≡ place + 4 * parties * rows) × (length (now s) ≤ length (now out)) × (length (now s) ≤ 59723) × (rows ≤ 2096) × (parties ≤ 7) ⌝ }
+    ensures { λ _. ⌜ now (out .exit) ≡ onto (transposed (now (s .entry)) place parties rows) (now (out .entry)) ⌝ }
+{
+    copy_front(s, place, out);
+    copy_blocks(
+        s,
+        grid::by_parts(place, rows),
+        out,
+        grid::by_rows(place, parties),
+        rows,
+        parties,
+    );
 }

@@ -5,8 +5,8 @@ use borrow.Author.Needs.{needs}
 use Rattle.column_form.proofs.to_sheet.Statement.{statement}
 use Rattle.column_form.proofs.to_sheet.Tie as tie
 
-turn-over-requires : tie.Need-turn-over-requires
-turn-over-requires c κs = let S = c .before .before .before .find .ensures .stands (c .before .if1 .taken) in search needs
+turn-back-requires : tie.Need-turn-back-requires
+turn-back-requires c κs = let S = c .before .before .before .find .ensures .stands (c .before .if1 .taken) in search needs
 
 pub to-sheet-spec : {M : Type 1} → statement M
-to-sheet-spec = tie.close (tie.spec (λ c κs. search needs) turn-over-requires (λ c. search needs) (λ c. search (needs, sheet-left)) (λ c. search (needs, left-alone)))
+to-sheet-spec = tie.close (tie.spec (λ c κs. search needs) turn-back-requires (λ c. search needs) (λ c. search (needs, sheet-left)) (λ c. search (needs, left-alone)))

@@ -1,0 +1,53 @@
+-- Where shares stand, and what copying them from one grid to another leaves.
+-- Assumes nothing.
+use mathlib.Core.Path.{_≡_}
+use mathlib.Core.List.{List}
+use Prim.Native.Nat.{ℕ, zero, suc, _+_, _*_, _≤_, _<_}
+use lib.ListN.{length, take, drop}
+use Rattle.algebra.specs.Lists.{ontoAt}
+use Rattle.column_form.specs.declared.grid.Grid.{Grid}
+
+-- the place of the share that is i rows and j parties past the first
+abbrev pub placeIn : Grid → ℕ → ℕ → ℕ
+placeIn G i j = G .first + G .row * i + G .party * j
+
+-- the grid of a sheet, row after row: so many parties, the first share at a place
+abbrev pub byRows : (place parties : ℕ) → Grid
+byRows place parties = record { first = place; row = 4 * parties; party = 4 }
+
+-- the grid of a column form, part after part: so many rows
+abbrev pub byParts : (place rows : ℕ) → Grid
+byParts place rows = record { first = place; row = 4; party = 4 * rows }
+
+-- the same grid, begun so many bytes further on
+abbrev pub furtherOn : ℕ → Grid → Grid
+furtherOn bytes G = record { first = G .first + bytes; row = G .row; party = G .party }
+
+-- The last of so many rows and parties stands within so many bytes. A step is at most 4 * 2,096 + 4: from party to party in the largest column form, and a
+-- share more.
+pub record Fits (G : Grid) (rows parties size : ℕ) : Type 0 where
+  pub last : G .first + G .row * rows + G .party * parties + 4 ≤ size + G .row + G .party
+  pub steps : G .row + G .party ≤ 8388
+  pub most : size ≤ 59723
+
+-- no two shares overlap: the parties stand within a row, or the rows within a party's part
+pub data Spaced (G : Grid) (rows parties : ℕ) : Type 0 where
+  in-a-row : 4 ≤ G .party → G .party * parties ≤ G .row → Spaced G rows parties
+  in-a-part : 4 ≤ G .row → G .row * rows ≤ G .party → Spaced G rows parties
+
+-- c after so many rows of the first party were copied to it from s, one after the other
+unfoldable pub columnCopied : List ℕ → (from to : Grid) → (rows : ℕ) → List ℕ → List ℕ
+columnCopied s F G zero c = c
+columnCopied s F G (suc k) c = ontoAt (placeIn G k 0) (take 4 (drop (placeIn F k 0) s)) (columnCopied s F G k c)
+
+-- c after so many rows were copied to it, of so many parties
+unfoldable pub rowsCopied : List ℕ → (from to : Grid) → (rows parties : ℕ) → List ℕ → List ℕ
+rowsCopied s F G rows zero c = c
+rowsCopied s F G rows (suc j) c = columnCopied s (furtherOn (F .party * j) F) (furtherOn (G .party * j) G) rows (rowsCopied s F G rows j c)
+
+-- c has the shares of s, was xs before, and is as it was before the first share and past the bytes of s
+pub record Copied (s : List ℕ) (from to : Grid) (rows parties : ℕ) (xs c : List ℕ) : Type 0 where
+  pub same-length : length c ≡ length xs
+  pub head : take (to .first) c ≡ take (to .first) xs
+  pub tail : drop (length s) c ≡ drop (length s) xs
+  pub shares : (i j : ℕ) → i < rows → j < parties → take 4 (drop (placeIn to i j) c) ≡ take 4 (drop (placeIn from i j) s)
