@@ -10,7 +10,7 @@ use lib.Dec.{eqb}
 use lib.ListN.{length}
 use Rattle.model.specs.Sheet.{headerOf, impliedLength, headerTests, limitTests, lengthTests}
 use Rattle.algebra.specs.Lists.{onto}
-use Rattle.model.specs.Columns.{transposed, columnForm, sheetForm, shapeTests, outputTests, turnTests, turnNumber, outputLeft}
+use Rattle.model.specs.Columns.{shapeTests, outputTests, turnTests, turnNumber, outputLeft}
 use Rattle.model.proofs.Trying.{given-done, given-refused, passes, fails, nothing-left, told}
 use Rattle.sheet.specs.Framed.{Headed, Framed}
 use Rattle.sheet.specs.Reading.{Reads}
@@ -77,27 +77,11 @@ module _ (s : List ℕ) {r : Read} (A : Reads (headerTests s ++ limitTests (head
       rw e at (refuses-first s A (lengthTests (headerOf s) s ++ outputTests s room) (λ f. Unit {0}) e) in
       record { number = q ∙ rw (by-lengths s room) (B .0); stands = λ z. absurd (omega (arith, B .1)) }
 
--- the forms, by where the shares stand
-module _ {s : List ℕ} {room : ℕ} {l : Layout} (S : Stands s room l) where
-  columns-made : transposed s (l .place) (l .rows) (l .parties) ≡ columnForm s
-  unfolding columnForm
-  columns-made = rw (S .place, S .rows, S .parties)
-
-  sheet-made : transposed s (l .place) (l .parties) (l .rows) ≡ sheetForm s
-  unfolding sheetForm
-  sheet-made = rw (S .place, S .rows, S .parties)
-
 -- what is left in the output: the form that was made, or what was there
 module _ (s out : List ℕ) {l : Layout} (L : Laid (turnTests s (length out)) s (length out) l) where
-  form-left : (form : List ℕ → List ℕ) → l .number ≡ 0 → onto (form s) out ≡ outputLeft form s out
+  pub form-left : (form : List ℕ → List ℕ) {left : List ℕ} → l .number ≡ 0 → left ≡ onto (form s) out → left ≡ outputLeft form s out
   unfolding outputLeft
-  form-left form z = sym (given-done (turnNumber s out) (onto (form s) out) out (sym (L .number) ∙ z))
-
-  pub columns-left : {left : List ℕ} → l .number ≡ 0 → left ≡ onto (transposed s (l .place) (l .rows) (l .parties)) out → left ≡ outputLeft columnForm s out
-  columns-left z e = e ∙ ap (λ (x : List ℕ). onto x out) (columns-made (L .stands z)) ∙ form-left columnForm z
-
-  pub sheet-left : {left : List ℕ} → l .number ≡ 0 → left ≡ onto (transposed s (l .place) (l .parties) (l .rows)) out → left ≡ outputLeft sheetForm s out
-  sheet-left z e = e ∙ ap (λ (x : List ℕ). onto x out) (sheet-made (L .stands z)) ∙ form-left sheetForm z
+  form-left form z e = e ∙ sym (given-done (turnNumber s out) _ out (sym (L .number) ∙ z))
 
   pub left-alone : (form : List ℕ → List ℕ) → (l .number ≡ 0 → ⊥) → out ≡ outputLeft form s out
   unfolding outputLeft

@@ -9,19 +9,21 @@ use lib.ListN.{length, take, drop, length-drop, take-append-drop}
 use lib.Seq.{length-take-le, take-at, take-take, take-append-le, drop-append-le}
 use Rattle.algebra.specs.Lists.{onto}
 use Rattle.algebra.proofs.Lists.{length-onto, onto-at-start, drop-past}
-use Rattle.model.specs.Columns.{transposed}
+use Rattle.model.specs.Columns.{transposed, columnForm, sheetForm}
 use Rattle.model.proofs.Transposing.{transposes, transposed-is}
+use Rattle.column_form.specs.Laid.{Stands}
 use Rattle.column_form.specs.Grids.{placeIn, byRows, byParts, Fits, Spaced, in-a-row, in-a-part, Copied}
 use Rattle.column_form.specs.declared.grid.Grid.{Grid}
+use Rattle.column_form.specs.declared.layout.Layout.{Layout}
 use Rattle.column_form.proofs.Places.{steps-le}
 
 -- the grids of a sheet and of a column form
-module _ {G : Grid} {size place rows parties : ℕ} (whole : size ≡ place + 4 * parties * rows) (most : size ≤ 59723) where
-  pub rows-fit : G ≡ byRows place parties → parties ≤ 7 → Fits G rows parties size
-  rows-fit e h = rw e (record { last = omega (arith, whole); steps = omega arith; most = most })
+module _ (s : List ℕ) {room : ℕ} {l : Layout} {G : Grid} (S : Stands s room l) where
+  pub rows-fit : G ≡ byRows (l .place) (l .parties) → Fits G (l .rows) (l .parties) (length s)
+  rows-fit e = rw e (record { last = omega (arith, S .whole); steps = omega (arith, S .most-parties); most = S .most })
 
-  pub parts-fit : G ≡ byParts place rows → rows ≤ 2096 → Fits G rows parties size
-  parts-fit e h = rw e (record { last = omega (arith, whole); steps = omega arith; most = most })
+  pub parts-fit : G ≡ byParts (l .place) (l .rows) → Fits G (l .rows) (l .parties) (length s)
+  parts-fit e = rw e (record { last = omega (arith, S .whole); steps = omega (arith, S .most-rows); most = S .most })
 
 pub rows-spaced : {G : Grid} {place rows parties : ℕ} → G ≡ byRows place parties → Spaced G rows parties
 rows-spaced e = rw e (in-a-row (omega arith) (omega arith))
@@ -74,37 +76,47 @@ module _ (s xs ys : List ℕ) (place : ℕ) (h : place ≤ length s) (room : len
   ys-tail : drop (length s) ys ≡ drop (length s) xs
   ys-tail = rw (e, ← onto-at-start) (drop-past (length s) 0 (take place s) xs (omega (arith, front-length)) (omega arith))
 
-module _ (s xs ys c : List ℕ) {F G : Grid} (place rows parties : ℕ) (whole : length s ≡ place + 4 * parties * rows) (room : length s ≤ length xs)
-    (e : ys ≡ onto (take place s) xs) (C : Copied s F G rows parties ys c) where
+-- the shares were copied after that
+module _ (s xs ys c : List ℕ) {F G : Grid} {l : Layout} (S : Stands s (length xs) l) (e : ys ≡ onto (take (l .place) s) xs)
+    (C : Copied s F G (l .rows) (l .parties) ys c) where
+  abbrev place : ℕ
+  place = l .place
+
+  abbrev rows : ℕ
+  rows = l .rows
+
+  abbrev parties : ℕ
+  parties = l .parties
+
   place-within : place ≤ length s
-  place-within = omega (arith, whole)
+  place-within = omega (arith, S .whole)
 
   c-room : length s ≤ length c
-  c-room = omega (arith, C .same-length, ys-length s xs ys place place-within room e)
+  c-room = omega (arith, S .fits, C .same-length, ys-length s xs ys place place-within (S .fits) e)
+
+  c-head : G .first ≡ place → take place c ≡ take place s
+  c-head g = (rw g at (C .head)) ∙ ys-head s xs ys place place-within (S .fits) e
 
   c-tail : drop (length s) c ≡ drop (length s) xs
-  c-tail = C .tail ∙ ys-tail s xs ys place place-within room e
+  c-tail = C .tail ∙ ys-tail s xs ys place place-within (S .fits) e
 
-  pub turned-over : F ≡ byRows place parties → G ≡ byParts place rows → c ≡ onto (transposed s place rows parties) xs
+  -- the places of Transposing
+  in-parts : (i j : ℕ) → placeIn (byParts place rows) i j ≡ place + 4 * (rows * j + i)
+  in-parts i j = omega arith
+
+  in-rows : (i j : ℕ) → placeIn (byRows place parties) i j ≡ place + 4 * (parties * i + j)
+  in-rows i j = omega arith
+
+  pub turned-over : F ≡ byRows place parties → G ≡ byParts place rows → c ≡ onto (columnForm s) xs
+  unfolding columnForm
   turned-over f g =
-      all-written s xs c place rows parties whole c-room ((rw g at (C .head)) ∙ ys-head s xs ys place place-within room e) c-tail
-      (λ i j a b. each i j (rw (f, g) at (C .shares i j a b)))
-    where
-      each : (i j : ℕ) → take 4 (drop (placeIn (byParts place rows) i j) c) ≡ take 4 (drop (placeIn (byRows place parties) i j) s)
-          → take 4 (drop (place + 4 * (rows * j + i)) c) ≡ take 4 (drop (place + 4 * (parties * i + j)) s)
-      each i j k =
-          let a : placeIn (byParts place rows) i j ≡ place + 4 * (rows * j + i) = omega arith in
-          let b : placeIn (byRows place parties) i j ≡ place + 4 * (parties * i + j) = omega arith in
-          rw (a, b) at k
+      all-written s xs c place rows parties (S .whole) c-room (c-head (ap (λ (x : Grid). x .first) g)) c-tail
+      (λ i j a b. rw (← in-parts i j, ← in-rows i j) (rw (f, g) at (C .shares i j a b)))
+      ∙ rw (S .place, S .rows, S .parties)
 
-  pub turned-back : F ≡ byParts place rows → G ≡ byRows place parties → c ≡ onto (transposed s place parties rows) xs
+  pub turned-back : F ≡ byParts place rows → G ≡ byRows place parties → c ≡ onto (sheetForm s) xs
+  unfolding sheetForm
   turned-back f g =
-      all-written s xs c place parties rows (omega (arith, whole)) c-room ((rw g at (C .head)) ∙ ys-head s xs ys place place-within room e) c-tail
-      (λ j i a b. each i j (rw (f, g) at (C .shares i j b a)))
-    where
-      each : (i j : ℕ) → take 4 (drop (placeIn (byRows place parties) i j) c) ≡ take 4 (drop (placeIn (byParts place rows) i j) s)
-          → take 4 (drop (place + 4 * (parties * i + j)) c) ≡ take 4 (drop (place + 4 * (rows * j + i)) s)
-      each i j k =
-          let a : placeIn (byParts place rows) i j ≡ place + 4 * (rows * j + i) = omega arith in
-          let b : placeIn (byRows place parties) i j ≡ place + 4 * (parties * i + j) = omega arith in
-          rw (a, b) at k
+      all-written s xs c place parties rows (omega (arith, S .whole)) c-room (c-head (ap (λ (x : Grid). x .first) g)) c-tail
+      (λ j i a b. rw (← in-rows i j, ← in-parts i j) (rw (f, g) at (C .shares i j b a)))
+      ∙ rw (S .place, S .rows, S .parties)

@@ -23,8 +23,7 @@ byParts place rows = record { first = place; row = 4; party = 4 * rows }
 abbrev pub furtherOn : ℕ → Grid → Grid
 furtherOn bytes G = record { first = G .first + bytes; row = G .row; party = G .party }
 
--- The last of so many rows and parties stands within so many bytes. A step is at most 4 * 2,096 + 4: from party to party in the largest column form, and a
--- share more.
+-- The last share of so many rows and parties ends within so many bytes. Both steps together are at most 4 + 4 * 2,096, as in the largest column form.
 pub record Fits (G : Grid) (rows parties size : ℕ) : Type 0 where
   pub last : G .first + G .row * rows + G .party * parties + 4 ≤ size + G .row + G .party
   pub steps : G .row + G .party ≤ 8388
@@ -45,7 +44,8 @@ unfoldable pub rowsCopied : List ℕ → (from to : Grid) → (rows parties : �
 rowsCopied s F G rows zero c = c
 rowsCopied s F G rows (suc j) c = columnCopied s (furtherOn (F .party * j) F) (furtherOn (G .party * j) G) rows (rowsCopied s F G rows j c)
 
--- c has the shares of s, was xs before, and is as it was before the first share and past the bytes of s
+-- c has the shares of s, from the places of one grid, at those of the other. It was xs before, and still is before the first share, and past as many
+-- bytes as s has.
 pub record Copied (s : List ℕ) (from to : Grid) (rows parties : ℕ) (xs c : List ℕ) : Type 0 where
   pub same-length : length c ≡ length xs
   pub head : take (to .first) c ≡ take (to .first) xs

@@ -13,7 +13,7 @@ pub fn to_columns(sheet: &[u8], columns: &mut [u8]) -> u32
 {
     let found = layout::find(sheet, columns.len());
     if found.number == 0 {
-        shares::turn_over(sheet, found.place, found.rows, found.parties, columns);
+        shares::turn_over(sheet, found, columns);
     }
     found.number
 }
@@ -24,7 +24,7 @@ pub fn to_sheet(columns: &[u8], sheet: &mut [u8]) -> u32
 {
     let found = layout::find(columns, sheet.len());
     if found.number == 0 {
-        shares::turn_back(columns, found.place, found.rows, found.parties, sheet);
+        shares::turn_back(columns, found, sheet);
     }
     found.number
 }

@@ -3,12 +3,14 @@ ghost use mathlib.Core.Path.{_≡_};
 ghost use Prim.Native.Nat.{_+_, _*_, _≤_};
 ghost use lib.ListN.{length, take, drop};
 ghost use Rattle.algebra.specs.Lists.{onto, ontoAt};
-ghost use Rattle.model.specs.Columns.{transposed};
+ghost use Rattle.model.specs.Columns.{columnForm, sheetForm};
+ghost use Rattle.column_form.specs.Laid.{Stands};
 ghost use Rattle.column_form.specs.Grids.{Fits, Spaced, columnCopied, rowsCopied, Copied};
 use crate::grid;
 use crate::grid::Grid;
+use crate::layout::Layout;
 
-// So many rows are copied, of all parties, before the next rows: they stay in the processor's cache while one party after the other is copied.
+// How many rows are copied for all parties before the next rows are: few enough to stay in the processor's cache from one party to the next.
 const BLOCK: usize = 256;
 
 // The first bytes, so many of them.
@@ -87,33 +89,23 @@ fn copy_blocks(s: &[u8], from: Grid, out: &mut [u8], to: Grid, rows: usize, part
 }
 
 // A sheet to its column form.
-pub fn turn_over(s: &[u8], place: usize, rows: usize, parties: usize, out: &mut [u8])
-    requires { ⌜ (length (now s) ≡ place + 4 * parties * rows) × (length (now s) ≤ length (now out)) × (length (now s) ≤ 59723) × (rows ≤ 2096) × (parties ≤ 7) ⌝ }
-    ensures { λ _. ⌜ now (out .exit) ≡ onto (transposed (now (s .entry)) place rows parties) (now (out .entry)) ⌝ }
+pub fn turn_over(s: &[u8], l: Layout, out: &mut [u8])
+    requires { ⌜ Stands (now s) (length (now out)) l ⌝ }
+    ensures { λ _. ⌜ now (out .exit) ≡ onto (columnForm (now (s .entry))) (now (out .entry)) ⌝ }
 {
-    copy_front(s, place, out);
-    copy_blocks(
-        s,
-        grid::by_rows(place, parties),
-        out,
-        grid::by_parts(place, rows),
-        rows,
-        parties,
-    );
+    copy_front(s, l.place, out);
+    let from = grid::by_rows(l.place, l.parties);
+    let to = grid::by_parts(l.place, l.rows);
+    copy_blocks(s, from, out, to, l.rows, l.parties);
 }
 
 // A column form to its sheet.
-pub fn turn_back(s: &[u8], place: usize, rows: usize, parties: usize, out: &mut [u8])
-    requires { ⌜ (length (now s) ≡ place + 4 * parties * rows) × (length (now s) ≤ length (now out)) × (length (now s) ≤ 59723) × (rows ≤ 2096) × (parties ≤ 7) ⌝ }
-    ensures { λ _. ⌜ now (out .exit) ≡ onto (transposed (now (s .entry)) place parties rows) (now (out .entry)) ⌝ }
+pub fn turn_back(s: &[u8], l: Layout, out: &mut [u8])
+    requires { ⌜ Stands (now s) (length (now out)) l ⌝ }
+    ensures { λ _. ⌜ now (out .exit) ≡ onto (sheetForm (now (s .entry))) (now (out .entry)) ⌝ }
 {
-    copy_front(s, place, out);
-    copy_blocks(
-        s,
-        grid::by_parts(place, rows),
-        out,
-        grid::by_rows(place, parties),
-        rows,
-        parties,
-    );
+    copy_front(s, l.place, out);
+    let from = grid::by_parts(l.place, l.rows);
+    let to = grid::by_rows(l.place, l.parties);
+    copy_blocks(s, from, out, to, l.rows, l.parties);
 }
