@@ -166,7 +166,7 @@ uint32_t jundrethol_import(
  *          (in field 0, 1, 2 or 3), 3 for each triple. All parts are equally long: (sheet_length - 11 - script length) / n bytes. Party j's
  *          part begins at columns[11 + script length + (j - 1) times that length]. Past the column form columns is unchanged.
  *
- * Nothing is turned in place: as everywhere, what is written may not overlap with what is read.
+ * Nothing is turned in place.
  *
  * Answers 0, or a refusal 1, 2, 3 or 4 of the sheet, or 15: columns_length is below sheet_length. A refusal writes nothing.
  */

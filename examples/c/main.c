@@ -32,14 +32,14 @@ static size_t put_shares(uint8_t *sheet, size_t at, const uint32_t *shares, size
 /* Header, script, two input rows and a triple's three. */
 static size_t make_sheet(uint8_t *sheet)
 {
-    static const uint8_t front[] = {
+    static const uint8_t head[] = {
         0, 3, 1, 2, 0, 0, 0, 1, 0, 11, 0,              /* field 0, n 3, t 1; 2 inputs, 0 masks, 1 triple, a script of 11 bytes */
         0x01, 0, 0x01, 1, 0x06, 2, 0, 1, 0x0C, 2, 0x00 /* LOAD 0, LOAD 1, MUL 2 0 1, REVEAL 2, END */
     };
     static const uint32_t rows[] = {7, 9, 11, 7, 11, 2, 2, 3, 4, 5, 8, 11, 7, 12, 4};
-    for (size_t i = 0; i < COUNT(front); i++)
-        sheet[i] = front[i];
-    return put_shares(sheet, COUNT(front), rows, COUNT(rows));
+    for (size_t i = 0; i < COUNT(head); i++)
+        sheet[i] = head[i];
+    return put_shares(sheet, COUNT(head), rows, COUNT(rows));
 }
 
 static void print_run(const uint32_t *record, const uint32_t *revealed, const uint64_t *counts, uint32_t number)
@@ -141,32 +141,32 @@ static void fill(uint8_t *output)
 /* Header and script, and the parties' parts, which are equally long. cut points into the column form; join takes them from anywhere, so also as
  * the firms sent them back. */
 struct pieces {
-    const uint8_t *front, *parts[MOST_PARTIES];
-    size_t front_length, parties, part_length;
+    const uint8_t *head, *parts[MOST_PARTIES];
+    size_t head_length, parties, part_length;
 };
 
 /* Where the pieces of a column form stand. Header and length are not tested: jundrethol_to_columns wrote what is cut here. A column form from
  * elsewhere may be cut if jundrethol_to_sheet does not refuse it. */
 static struct pieces cut(const uint8_t *columns, size_t length)
 {
-    struct pieces pieces = {.front = columns, .parties = columns[1]};
-    pieces.front_length = 11 + (columns[9] | (size_t)columns[10] << 8);
-    pieces.part_length = (length - pieces.front_length) / pieces.parties;
+    struct pieces pieces = {.head = columns, .parties = columns[1]};
+    pieces.head_length = 11 + (columns[9] | (size_t)columns[10] << 8);
+    pieces.part_length = (length - pieces.head_length) / pieces.parties;
     for (size_t i = 0; i < pieces.parties; i++)
-        pieces.parts[i] = columns + pieces.front_length + i * pieces.part_length;
+        pieces.parts[i] = columns + pieces.head_length + i * pieces.part_length;
     return pieces;
 }
 
 static size_t joined_length(const struct pieces *pieces)
 {
-    return pieces->front_length + pieces->parties * pieces->part_length;
+    return pieces->head_length + pieces->parties * pieces->part_length;
 }
 
 /* Header and script, then the parts in order, are the column form again. The caller lends joined_length bytes for it. */
 static void join(const struct pieces *pieces, uint8_t *columns)
 {
-    memcpy(columns, pieces->front, pieces->front_length);
-    columns += pieces->front_length;
+    memcpy(columns, pieces->head, pieces->head_length);
+    columns += pieces->head_length;
     for (size_t i = 0; i < pieces->parties; i++, columns += pieces->part_length)
         memcpy(columns, pieces->parts[i], pieces->part_length);
 }

@@ -83,7 +83,7 @@ fn import_calls() {
 /// Header and script, and the parties' parts. `cut` leaves them in the column form; `join` takes them from anywhere, so also as the firms sent
 /// them back.
 struct Pieces<'a> {
-    front: &'a [u8],
+    head: &'a [u8],
     parts: Vec<&'a [u8]>,
 }
 
@@ -92,15 +92,15 @@ struct Pieces<'a> {
 fn cut(columns: &[u8]) -> Pieces<'_> {
     let parties = usize::from(columns[1]);
     let script = usize::from(u16::from_le_bytes([columns[9], columns[10]]));
-    let (front, shares) = columns.split_at(11 + script);
+    let (head, shares) = columns.split_at(11 + script);
     let length = shares.len() / parties;
     let parts = (0..parties).map(|i| &shares[i * length..][..length]).collect();
-    Pieces { front, parts }
+    Pieces { head, parts }
 }
 
 /// Header and script, then the parts in order, are the column form again.
 fn join(pieces: &Pieces) -> Vec<u8> {
-    [pieces.front, &pieces.parts.concat()].concat()
+    [pieces.head, &pieces.parts.concat()].concat()
 }
 
 fn print_part(party: usize, start: usize, part: &[u8]) {
@@ -120,7 +120,7 @@ fn cut_and_join() {
     expect(jundrethol::to_columns(&sheet, &mut columns) == Ok(()), "the sheet has a column form");
     expect(columns[sheet.len()..] == filled()[sheet.len()..], "a longer output keeps its tail");
     let pieces = cut(&columns[..sheet.len()]);
-    let mut start = pieces.front.len();
+    let mut start = pieces.head.len();
     for (i, part) in pieces.parts.iter().enumerate() {
         print_part(i + 1, start, part);
         start += part.len();

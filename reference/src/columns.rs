@@ -52,10 +52,10 @@ fn turn(input: &[u8], output: &mut [u8], put: fn(&[u8], &mut [u8], usize)) -> Re
     let header = Header::read(input)?;
     let output = output.get_mut(..input.len());
     let output = output.ok_or(refusal::OUTPUT_SHORT)?;
-    let front = header::BYTES + header.script;
-    let (output_front, output_shares) = output.split_at_mut(front);
-    output_front.copy_from_slice(&input[..front]);
-    put(&input[front..], output_shares, header.parties);
+    let head = header::BYTES + header.script;
+    let (output_head, output_shares) = output.split_at_mut(head);
+    output_head.copy_from_slice(&input[..head]);
+    put(&input[head..], output_shares, header.parties);
     Ok(())
 }
 

@@ -1,23 +1,23 @@
 -- The loop over blocks of rows.
 -- Assumes nothing.
-use mathlib.Core.Path.{_≡_, refl, sym, ap, subst, _∙_}
+use mathlib.Core.Path.{_≡_, _∙_}
 use mathlib.Core.List.{List}
-use Prim.Native.Nat.{ℕ, zero, suc, _+_, _*_, _-_, _^_, _≤_, _<_}
+use Prim.Native.Nat.{ℕ, zero, _+_, _*_, _-_, _≤_, _<_, _^_}
 use native.Mathlib.Nat.{mul-zero}
 use native.Mathlib.Omega.{arith}
 use lib.ListN.{length}
 use Rattle.column_form.specs.Grids.{furtherOn, Fits, Spaced, rowsCopied, Copied}
 use Rattle.column_form.specs.declared.grid.Grid.{Grid}
-use Rattle.column_form.proofs.Places.{steps-le, fits-on}
+use Rattle.column_form.proofs.Places.{fits-on}
 use Rattle.column_form.proofs.Partly.{Partly, none-copied, block-more, all-copied}
 use Rattle.column_form.proofs.Parties.{further-none, further-twice}
 
--- Between the turns of `copy_blocks` some rows are done; those that are left begin at the grid read, and go to the grid write.
+-- `copy_blocks` has copied some rows; those that are left begin at the grid read, and go to the grid write.
 pub record BlockLoop (s : List ℕ) (F G : Grid) (rows parties : ℕ) (xs : List ℕ) (read write : Grid) (left : ℕ) (out : List ℕ) : Type 0 where
   pub done : ℕ
   pub all-rows : done + left ≡ rows
-  pub read-is : read ≡ furtherOn (F .row * done) F
-  pub write-is : write ≡ furtherOn (G .row * done) G
+  pub read-is : read ≡ furtherOn (F .down * done) F
+  pub write-is : write ≡ furtherOn (G .down * done) G
   pub copied : Partly s F G rows parties (λ i j. i < done) xs out
 
 pub block-start : (s : List ℕ) (F G : Grid) (rows parties : ℕ) (xs : List ℕ) → BlockLoop s F G rows parties xs F G rows xs
@@ -57,11 +57,11 @@ module _ {s : List ℕ} {F G : Grid} {rows parties : ℕ} {xs : List ℕ} {read 
   pub rest-writes : Fits write left parties (length s)
   rest-writes = writes-most left (omega arith)
 
-  -- and past a block the next place is not far
-  pub block-reads-on : {k : ℕ} → k < left → read .first + k * F .row ≤ 68111
+  -- and the place of the next block is a number of 64 bits
+  pub block-reads-on : {k : ℕ} → k < left → read .first + k * F .down < 2 ^ 64
   block-reads-on {k} h = rw (L .read-is) (omega (arith, fits-on f (L .done) k (omega (arith, L .all-rows))))
 
-  pub block-writes-on : {k : ℕ} → k < left → write .first + k * G .row ≤ 68111
+  pub block-writes-on : {k : ℕ} → k < left → write .first + k * G .down < 2 ^ 64
   block-writes-on {k} h = rw (L .write-is) (omega (arith, fits-on g (L .done) k (omega (arith, L .all-rows))))
 
   module _ (spaced : Spaced G rows parties) (room : length s ≤ length xs) where
@@ -70,7 +70,7 @@ module _ {s : List ℕ} {F G : Grid} {rows parties : ℕ} {xs : List ℕ} {read 
         rw (L .read-is, L .write-is) (block-more s F G rows parties xs f g spaced room (L .done) k (omega (arith, L .all-rows)) (L .copied))
 
     pub next-block : {read′ write′ : Grid} {next : List ℕ} {k : ℕ} → k < left → next ≡ rowsCopied s read write k parties out
-        → read′ ≡ furtherOn (k * F .row) read → write′ ≡ furtherOn (k * G .row) write → BlockLoop s F G rows parties xs read′ write′ (left - k) next
+        → read′ ≡ furtherOn (k * F .down) read → write′ ≡ furtherOn (k * G .down) write → BlockLoop s F G rows parties xs read′ write′ (left - k) next
     next-block {read′} {write′} {next} {k} h e r w =
         record {
           done = L .done + k;

@@ -2,7 +2,7 @@
 -- Assumes nothing.
 use mathlib.Core.Path.{_≡_, refl, sym, ap, _∙_}
 use mathlib.Core.List.{List, [], _∷_, _++_, append-assoc}
-use Prim.Native.Nat.{ℕ, zero, suc, _+_, _*_, _^_, _≤_, _<_}
+use Prim.Native.Nat.{ℕ, zero, suc, _+_, _^_, _≤_, _<_}
 use native.Mathlib.Numerals.{add-one}
 use native.Mathlib.Omega.{arith}
 use lib.ListN.{length, getD, set, take, drop, length-drop}
@@ -13,9 +13,9 @@ use Rattle.column_form.specs.Grids.{placeIn, Fits, columnCopied}
 use Rattle.column_form.specs.declared.grid.Grid.{Grid}
 use Rattle.column_form.proofs.Places.{within}
 
--- `copy_front`: there is room for the next byte
-pub front-room : {vs xs : List ℕ} {n j : ℕ} {l : List ℕ} → Writing vs xs n j l → n ≤ length vs → n ≤ length xs → j < n → j < length l
-front-room W a b h = omega (arith, writing-length W a b)
+-- `copy_head`: there is room for the next byte
+pub head-room : {vs xs : List ℕ} {n j : ℕ} {l : List ℕ} → Writing vs xs n j l → n ≤ length vs → n ≤ length xs → j < n → j < length l
+head-room W a b h = omega (arith, writing-length W a b)
 
 -- the four bytes from a place on
 next-byte : (s : List ℕ) (w i : ℕ) → i < length s → take (suc w) (drop i s) ≡ getD s i 0 ∷ take w (drop (suc i) s)
@@ -52,7 +52,7 @@ column-length s F G rows c f g room (suc k) h =
     (rw (length-take-le 4 (drop (placeIn F k 0) s) (rw length-drop (omega (arith, within f k 0 h (omega arith))))) (omega (arith, e, within g k 0 h (omega arith))))
     ∙ e
 
--- After k turns of `copy_column` out has k shares; the next is at place read, and goes to place write.
+-- `copy_column` has copied k shares; the next is at place read, and goes to place write.
 pub record ColumnLoop (s : List ℕ) (F G : Grid) (rows : ℕ) (xs : List ℕ) (read write k : ℕ) (out : List ℕ) : Type 0 where
   pub within-rows : k ≤ rows
   pub read-is : read ≡ placeIn F k 0
@@ -75,14 +75,14 @@ module _ {s : List ℕ} {F G : Grid} {rows : ℕ} {xs : List ℕ} {read write k 
   pub loop-writes : k < rows → write + 4 ≤ length out
   loop-writes h = omega (arith, L .write-is, loop-length, within g k 0 h (omega arith))
 
-  pub loop-reads-on : k < rows → read + F .row < 2 ^ 64
+  pub loop-reads-on : k < rows → read + F .down < 2 ^ 64
   loop-reads-on h = omega (arith, loop-reads h, f .steps, f .most)
 
-  pub loop-writes-on : k < rows → write + G .row < 2 ^ 64
+  pub loop-writes-on : k < rows → write + G .down < 2 ^ 64
   loop-writes-on h = omega (arith, L .write-is, within g k 0 h (omega arith), g .steps, g .most)
 
   pub loop-more : {next : List ℕ} → k < rows → next ≡ ontoAt write (take 4 (drop read s)) out
-      → ColumnLoop s F G rows xs (read + F .row) (write + G .row) (k + 1) next
+      → ColumnLoop s F G rows xs (read + F .down) (write + G .down) (k + 1) next
   unfolding columnCopied
   loop-more {next} h e =
       record {

@@ -1,6 +1,6 @@
 -- What `by_lengths` and `find` answer, by the tests of header, length and output; and what the entries leave by it.
 -- Assumes nothing.
-use mathlib.Core.Path.{_≡_, sym, ap, subst, _∙_}
+use mathlib.Core.Path.{_≡_, sym, ap, _∙_}
 use mathlib.Core.Bool.{Bool, true, false}
 use mathlib.Core.List.{List, [], _++_, append-assoc}
 use Prim.Native.Nat.{ℕ, _+_, _*_, _≤_, _<_}
@@ -19,12 +19,12 @@ use Rattle.sheet.proofs.Answers.{framed, refuses-first, passes-first}
 use Rattle.sheet.specs.declared.frame.Frame.{Frame}
 use Rattle.sheet.specs.declared.header.Read.{Read}
 use Rattle.sheet.specs.declared.header.Read.the-variants.{Sheet, Refused}
-use Rattle.column_form.specs.Laid.{Stands, Laid}
+use Rattle.column_form.specs.Laid.{LaidOut, Laid}
 use Rattle.column_form.specs.declared.layout.Layout.{Layout}
 
 -- where the shares of a frame stand
 stands-in : {s : List ℕ} {f : Frame} {room : ℕ} {r : Layout} → Framed s f → length s ≤ room → r .place ≡ f .input
-    → r .rows ≡ f .inputs + f .l * f .masks + 3 * f .triples → r .parties ≡ f .n → Stands s room r
+    → r .rows ≡ f .inputs + f .l * f .masks + 3 * f .triples → r .parties ≡ f .n → LaidOut s room r
 stands-in {s} {f} {room} F h place rows parties =
     let H = F .headed in
     record {

@@ -1,6 +1,6 @@
 -- Shares copied one after the other, in whichever order: those that were copied stay so, until all are.
 -- Assumes nothing.
-use mathlib.Core.Path.{_≡_, refl, sym, ap, ap₂, _∙_}
+use mathlib.Core.Path.{_≡_, refl, sym, ap, _∙_}
 use mathlib.Core.Logic.{_⊎_, inl, inr, ⊎-elim}
 use mathlib.Core.List.{List}
 use Prim.Native.Nat.{ℕ, zero, suc, _+_, _*_, _≤_, _<_}
@@ -38,28 +38,28 @@ module _ (s : List ℕ) (F G : Grid) (rows parties : ℕ) (xs : List ℕ) where
       long : placeIn G i j + 4 ≤ length c
       long = omega (arith, within writes i j hi hj, P .same-length)
 
-      -- what stands at the place of row i′ and party j′ now
-      abbrev Stands : ℕ → ℕ → Type 0
-      Stands i′ j′ = take 4 (drop (placeIn G i′ j′) (ontoAt (placeIn G i j) share c)) ≡ take 4 (drop (placeIn F i′ j′) s)
+      -- row i′ of party j′ is at its place now
+      abbrev There : ℕ → ℕ → Type 0
+      There i′ j′ = take 4 (drop (placeIn G i′ j′) (ontoAt (placeIn G i j) share c)) ≡ take 4 (drop (placeIn F i′ j′) s)
 
-      stands-here : (i′ j′ : ℕ) → i′ ≡ i → j′ ≡ j → Stands i′ j′
+      put-there : (i′ j′ : ℕ) → i′ ≡ i → j′ ≡ j → There i′ j′
       unfolding share
-      stands-here i′ j′ e q = rw (e, q) (written-here share c (placeIn G i j) (placeIn G i j) four refl (omega (arith, long)))
+      put-there i′ j′ e q = rw (e, q) (written-here share c (placeIn G i j) (placeIn G i j) four refl (omega (arith, long)))
 
-      still-stands : (i′ j′ : ℕ) → take 4 (drop (placeIn G i′ j′) c) ≡ take 4 (drop (placeIn F i′ j′) s) → Apart G i j i′ j′ → Stands i′ j′
-      still-stands i′ j′ d (at-once e q) = stands-here i′ j′ (sym e) (sym q)
-      still-stands i′ j′ d (before h) = written-before share c (placeIn G i j) (placeIn G i′ j′) four h (omega (arith, long)) ∙ d
-      still-stands i′ j′ d (behind h) = written-behind share c (placeIn G i j) (placeIn G i′ j′) four h (omega (arith, long)) ∙ d
+      still-there : (i′ j′ : ℕ) → take 4 (drop (placeIn G i′ j′) c) ≡ take 4 (drop (placeIn F i′ j′) s) → Apart G i j i′ j′ → There i′ j′
+      still-there i′ j′ d (at-once e q) = put-there i′ j′ (sym e) (sym q)
+      still-there i′ j′ d (before h) = written-before share c (placeIn G i j) (placeIn G i′ j′) four h (omega (arith, long)) ∙ d
+      still-there i′ j′ d (behind h) = written-behind share c (placeIn G i j) (placeIn G i′ j′) four h (omega (arith, long)) ∙ d
 
       share-more : After (λ i′ j′. Done i′ j′ ⊎ ((i′ ≡ i) × (j′ ≡ j))) (ontoAt (placeIn G i j) share c)
       share-more =
-          let e : placeIn G i j ≡ G .first + (G .row * i + G .party * j) = omega arith in
+          let e : placeIn G i j ≡ G .first + (G .down * i + G .across * j) = omega arith in
           record {
             same-length = length-onto-at (placeIn G i j) share c (omega (arith, long, four)) ∙ P .same-length;
             head = rw e (take-onto-at (G .first) _ share c (omega (arith, long))) ∙ P .head;
             tail = drop-past (length s) (placeIn G i j) share c (omega (arith, four, within writes i j hi hj)) (omega (arith, long)) ∙ P .tail;
             shares = λ i′ j′ a b d.
-                ⊎-elim (λ x. still-stands i′ j′ (P .shares i′ j′ a b x) (apart G i j i′ j′ hi hj a b spaced)) (λ x. stands-here i′ j′ (x .0) (x .1)) d;
+                ⊎-elim (λ x. still-there i′ j′ (P .shares i′ j′ a b x) (apart G i j i′ j′ hi hj a b spaced)) (λ x. put-there i′ j′ (x .0) (x .1)) d;
           }
 
     -- fewer of them
@@ -69,12 +69,12 @@ module _ (s : List ℕ) (F G : Grid) (rows parties : ℕ) (xs : List ℕ) where
     -- k rows of party j, from row b on
     column-more : {Done : ℕ → ℕ → Type 0} {c : List ℕ} (b j k : ℕ) → b + k ≤ rows → j < parties → After Done c
         → After (λ i′ j′. Done i′ j′ ⊎ ((j′ ≡ j) × ((b ≤ i′) × (i′ < b + k))))
-        (columnCopied s (furtherOn (F .party * j) (furtherOn (F .row * b) F)) (furtherOn (G .party * j) (furtherOn (G .row * b) G)) k c)
+        (columnCopied s (furtherOn (F .across * j) (furtherOn (F .down * b) F)) (furtherOn (G .across * j) (furtherOn (G .down * b) G)) k c)
     unfolding columnCopied share
     column-more {Done} {c} b j zero h l P = fewer (λ i′ j′ _ d. ⊎-elim (λ x. x) (λ x. absurd (omega arith)) d) P
     column-more {Done} {c} b j (suc k) h l P =
-        let e : placeIn (furtherOn (F .party * j) (furtherOn (F .row * b) F)) k 0 ≡ placeIn F (b + k) j = omega arith in
-        let q : placeIn (furtherOn (G .party * j) (furtherOn (G .row * b) G)) k 0 ≡ placeIn G (b + k) j = omega arith in
+        let e : placeIn (furtherOn (F .across * j) (furtherOn (F .down * b) F)) k 0 ≡ placeIn F (b + k) j = omega arith in
+        let q : placeIn (furtherOn (G .across * j) (furtherOn (G .down * b) G)) k 0 ≡ placeIn G (b + k) j = omega arith in
         rw (e, q) (fewer (λ i′ j′ _ d. last i′ j′ d) (share-more (column-more b j k (omega arith) l P) (b + k) j (omega arith) l))
       where
         last : (i′ j′ : ℕ) → Done i′ j′ ⊎ ((j′ ≡ j) × ((b ≤ i′) × (i′ < b + suc k)))
@@ -84,7 +84,7 @@ module _ (s : List ℕ) (F G : Grid) (rows parties : ℕ) (xs : List ℕ) where
 
     -- k rows of n parties, from row b on
     rows-more : {Done : ℕ → ℕ → Type 0} {c : List ℕ} (b k n : ℕ) → b + k ≤ rows → n ≤ parties → After Done c
-        → After (λ i′ j′. Done i′ j′ ⊎ ((j′ < n) × ((b ≤ i′) × (i′ < b + k)))) (rowsCopied s (furtherOn (F .row * b) F) (furtherOn (G .row * b) G) k n c)
+        → After (λ i′ j′. Done i′ j′ ⊎ ((j′ < n) × ((b ≤ i′) × (i′ < b + k)))) (rowsCopied s (furtherOn (F .down * b) F) (furtherOn (G .down * b) G) k n c)
     unfolding rowsCopied
     rows-more b k zero h l P = fewer (λ i′ j′ _ d. ⊎-elim (λ x. x) (λ x. absurd (omega arith)) d) P
     rows-more {Done} b k (suc n) h l P = fewer (λ i′ j′ _ d. last i′ j′ d) (column-more b n k h (omega arith) (rows-more b k n h (omega arith) P))
@@ -96,7 +96,7 @@ module _ (s : List ℕ) (F G : Grid) (rows parties : ℕ) (xs : List ℕ) where
 
     -- k rows more, where those before row b are done
     pub block-more : {c : List ℕ} (b k : ℕ) → b + k ≤ rows → After (λ i j. i < b) c
-        → After (λ i j. i < b + k) (rowsCopied s (furtherOn (F .row * b) F) (furtherOn (G .row * b) G) k parties c)
+        → After (λ i j. i < b + k) (rowsCopied s (furtherOn (F .down * b) F) (furtherOn (G .down * b) G) k parties c)
     block-more b k h P = fewer (λ i j l d. split i j l d (order i b)) (rows-more b k parties h (omega arith) P)
       where
         split : (i j : ℕ) → j < parties → i < b + k → Order i b → (i < b) ⊎ ((j < parties) × ((b ≤ i) × (i < b + k)))

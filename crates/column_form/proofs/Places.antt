@@ -1,6 +1,6 @@
 -- Places of shares: they stand within the bytes, and no two of them overlap; and what a write leaves at other places.
 -- Assumes nothing.
-use mathlib.Core.Path.{_≡_, refl, sym, ap, _∙_}
+use mathlib.Core.Path.{_≡_, refl, ap, _∙_}
 use mathlib.Core.List.{List}
 use Prim.Native.Nat.{ℕ, zero, suc, _+_, _*_, _-_, _≤_, _<_}
 use native.Mathlib.Nat.{le-refl, add-zero, mul-le-mul}
@@ -12,20 +12,20 @@ use Rattle.algebra.proofs.Lists.{take-onto-at, drop-onto-at, drop-past}
 use Rattle.column_form.specs.Grids.{placeIn, furtherOn, Fits, Spaced, in-a-row, in-a-part}
 use Rattle.column_form.specs.declared.grid.Grid.{Grid}
 
--- so many steps more or less
+-- fewer steps do not lead further
 pub steps-le : (step : ℕ) {a b : ℕ} → a ≤ b → step * a ≤ step * b
 steps-le step {a} {b} h = mul-le-mul {n₂ = step} {m₂ = b} (le-refl step) h
 
 module _ {G : Grid} {rows parties size : ℕ} (fits : Fits G rows parties size) where
   pub within : (i j : ℕ) → i < rows → j < parties → placeIn G i j + 4 ≤ size
-  within i j a b = omega (arith, fits .last, steps-le (G .row) a, steps-le (G .party) b)
+  within i j a b = omega (arith, fits .last, steps-le (G .down) a, steps-le (G .across) b)
 
-  -- the rows from row i on, and one party
-  pub fits-on : (i k : ℕ) → i + k ≤ rows → Fits (furtherOn (G .row * i) G) k parties size
-  fits-on i k h = record { last = omega (arith, fits .last, steps-le (G .row) h); steps = fits .steps; most = fits .most }
+  -- so many rows from row i on, and one party
+  pub fits-on : (i k : ℕ) → i + k ≤ rows → Fits (furtherOn (G .down * i) G) k parties size
+  fits-on i k h = record { last = omega (arith, fits .last, steps-le (G .down) h); steps = fits .steps; most = fits .most }
 
-  pub fits-party : (j : ℕ) → j < parties → Fits (furtherOn (G .party * j) G) rows 1 size
-  fits-party j h = record { last = omega (arith, fits .last, steps-le (G .party) h); steps = fits .steps; most = fits .most }
+  pub fits-party : (j : ℕ) → j < parties → Fits (furtherOn (G .across * j) G) rows 1 size
+  fits-party j h = record { last = omega (arith, fits .last, steps-le (G .across) h); steps = fits .steps; most = fits .most }
 
 -- two numbers, by their order
 pub data Order (a b : ℕ) : Type 0 where
@@ -51,18 +51,18 @@ pub data Apart (G : Grid) (i j i′ j′ : ℕ) : Type 0 where
   behind : placeIn G i′ j′ + 4 ≤ placeIn G i j → Apart G i j i′ j′
 
 module _ (G : Grid) {rows parties : ℕ} (i j i′ j′ : ℕ) (hi : i < rows) (hj : j < parties) (hi′ : i′ < rows) (hj′ : j′ < parties) where
-  by-row : 4 ≤ G .party → G .party * parties ≤ G .row → Order i i′ → Order j j′ → Apart G i j i′ j′
-  by-row m n (below a) o = before (omega (arith, steps-le (G .row) a, steps-le (G .party) hj))
-  by-row m n (above a) o = behind (omega (arith, steps-le (G .row) a, steps-le (G .party) hj′))
-  by-row m n (same a) (below b) = rw a (before (omega (arith, steps-le (G .party) b)))
-  by-row m n (same a) (above b) = rw a (behind (omega (arith, steps-le (G .party) b)))
+  by-row : 4 ≤ G .across → G .across * parties ≤ G .down → Order i i′ → Order j j′ → Apart G i j i′ j′
+  by-row m n (below a) o = before (omega (arith, steps-le (G .down) a, steps-le (G .across) hj))
+  by-row m n (above a) o = behind (omega (arith, steps-le (G .down) a, steps-le (G .across) hj′))
+  by-row m n (same a) (below b) = rw a (before (omega (arith, steps-le (G .across) b)))
+  by-row m n (same a) (above b) = rw a (behind (omega (arith, steps-le (G .across) b)))
   by-row m n (same a) (same b) = at-once a b
 
-  by-part : 4 ≤ G .row → G .row * rows ≤ G .party → Order i i′ → Order j j′ → Apart G i j i′ j′
-  by-part m n o (below b) = before (omega (arith, steps-le (G .party) b, steps-le (G .row) hi))
-  by-part m n o (above b) = behind (omega (arith, steps-le (G .party) b, steps-le (G .row) hi′))
-  by-part m n (below a) (same b) = rw b (before (omega (arith, steps-le (G .row) a)))
-  by-part m n (above a) (same b) = rw b (behind (omega (arith, steps-le (G .row) a)))
+  by-part : 4 ≤ G .down → G .down * rows ≤ G .across → Order i i′ → Order j j′ → Apart G i j i′ j′
+  by-part m n o (below b) = before (omega (arith, steps-le (G .across) b, steps-le (G .down) hi))
+  by-part m n o (above b) = behind (omega (arith, steps-le (G .across) b, steps-le (G .down) hi′))
+  by-part m n (below a) (same b) = rw b (before (omega (arith, steps-le (G .down) a)))
+  by-part m n (above a) (same b) = rw b (behind (omega (arith, steps-le (G .down) a)))
   by-part m n (same a) (same b) = at-once a b
 
   pub apart : Spaced G rows parties → Apart G i j i′ j′

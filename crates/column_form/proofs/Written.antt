@@ -1,9 +1,8 @@
 -- What `turn_over` and `turn_back` leave: the shares of one grid stand at the places of the other, and no other list has them there.
 -- Assumes nothing.
-use mathlib.Core.Path.{_≡_, refl, sym, ap, ap₂, _∙_}
+use mathlib.Core.Path.{_≡_, sym, ap, ap₂, _∙_}
 use mathlib.Core.List.{List, _++_}
 use Prim.Native.Nat.{ℕ, _+_, _*_, _≤_, _<_}
-use native.Mathlib.Nat.{le-refl, mul-le-mul}
 use native.Mathlib.Omega.{arith}
 use lib.ListN.{length, take, drop, length-drop, take-append-drop}
 use lib.Seq.{length-take-le, take-at, take-take, take-append-le, drop-append-le}
@@ -11,25 +10,25 @@ use Rattle.algebra.specs.Lists.{onto}
 use Rattle.algebra.proofs.Lists.{length-onto, onto-at-start, drop-past}
 use Rattle.model.specs.Columns.{transposed, columnForm, sheetForm}
 use Rattle.model.proofs.Transposing.{transposes, transposed-is}
-use Rattle.column_form.specs.Laid.{Stands}
-use Rattle.column_form.specs.Grids.{placeIn, byRows, byParts, Fits, Spaced, in-a-row, in-a-part, Copied}
+use Rattle.column_form.specs.Laid.{LaidOut}
+use Rattle.column_form.specs.Grids.{placeIn, sheetGrid, columnGrid, Fits, Spaced, in-a-row, in-a-part, Copied}
 use Rattle.column_form.specs.declared.grid.Grid.{Grid}
 use Rattle.column_form.specs.declared.layout.Layout.{Layout}
 use Rattle.column_form.proofs.Places.{steps-le}
 
 -- the grids of a sheet and of a column form
-module _ (s : List ℕ) {room : ℕ} {l : Layout} {G : Grid} (S : Stands s room l) where
-  pub rows-fit : G ≡ byRows (l .place) (l .parties) → Fits G (l .rows) (l .parties) (length s)
-  rows-fit e = rw e (record { last = omega (arith, S .whole); steps = omega (arith, S .most-parties); most = S .most })
+module _ (s : List ℕ) {room : ℕ} {l : Layout} {G : Grid} (S : LaidOut s room l) where
+  pub sheet-fits : G ≡ sheetGrid (l .place) (l .parties) → Fits G (l .rows) (l .parties) (length s)
+  sheet-fits e = rw e (record { last = omega (arith, S .whole); steps = omega (arith, S .most-parties); most = S .most })
 
-  pub parts-fit : G ≡ byParts (l .place) (l .rows) → Fits G (l .rows) (l .parties) (length s)
-  parts-fit e = rw e (record { last = omega (arith, S .whole); steps = omega (arith, S .most-rows); most = S .most })
+  pub column-fits : G ≡ columnGrid (l .place) (l .rows) → Fits G (l .rows) (l .parties) (length s)
+  column-fits e = rw e (record { last = omega (arith, S .whole); steps = omega (arith, S .most-rows); most = S .most })
 
-pub rows-spaced : {G : Grid} {place rows parties : ℕ} → G ≡ byRows place parties → Spaced G rows parties
-rows-spaced e = rw e (in-a-row (omega arith) (omega arith))
+pub sheet-spaced : {G : Grid} {place rows parties : ℕ} → G ≡ sheetGrid place parties → Spaced G rows parties
+sheet-spaced e = rw e (in-a-row (omega arith) (omega arith))
 
-pub parts-spaced : {G : Grid} {place rows parties : ℕ} → G ≡ byParts place rows → Spaced G rows parties
-parts-spaced e = rw e (in-a-part (omega arith) (omega arith))
+pub column-spaced : {G : Grid} {place rows parties : ℕ} → G ≡ columnGrid place rows → Spaced G rows parties
+column-spaced e = rw e (in-a-part (omega arith) (omega arith))
 
 -- four numbers in a list's front
 in-front : (m i : ℕ) (c : List ℕ) → i + 4 ≤ m → m ≤ length c → take 4 (drop i (take m c)) ≡ take 4 (drop i c)
@@ -77,7 +76,7 @@ module _ (s xs ys : List ℕ) (place : ℕ) (h : place ≤ length s) (room : len
   ys-tail = rw (e, ← onto-at-start) (drop-past (length s) 0 (take place s) xs (omega (arith, front-length)) (omega arith))
 
 -- the shares were copied after that
-module _ (s xs ys c : List ℕ) {F G : Grid} {l : Layout} (S : Stands s (length xs) l) (e : ys ≡ onto (take (l .place) s) xs)
+module _ (s xs ys c : List ℕ) {F G : Grid} {l : Layout} (S : LaidOut s (length xs) l) (e : ys ≡ onto (take (l .place) s) xs)
     (C : Copied s F G (l .rows) (l .parties) ys c) where
   abbrev place : ℕ
   place = l .place
@@ -101,20 +100,20 @@ module _ (s xs ys c : List ℕ) {F G : Grid} {l : Layout} (S : Stands s (length 
   c-tail = C .tail ∙ ys-tail s xs ys place place-within (S .fits) e
 
   -- the places of Transposing
-  in-parts : (i j : ℕ) → placeIn (byParts place rows) i j ≡ place + 4 * (rows * j + i)
+  in-parts : (i j : ℕ) → placeIn (columnGrid place rows) i j ≡ place + 4 * (rows * j + i)
   in-parts i j = omega arith
 
-  in-rows : (i j : ℕ) → placeIn (byRows place parties) i j ≡ place + 4 * (parties * i + j)
+  in-rows : (i j : ℕ) → placeIn (sheetGrid place parties) i j ≡ place + 4 * (parties * i + j)
   in-rows i j = omega arith
 
-  pub turned-over : F ≡ byRows place parties → G ≡ byParts place rows → c ≡ onto (columnForm s) xs
+  pub turned-over : F ≡ sheetGrid place parties → G ≡ columnGrid place rows → c ≡ onto (columnForm s) xs
   unfolding columnForm
   turned-over f g =
       all-written s xs c place rows parties (S .whole) c-room (c-head (ap (λ (x : Grid). x .first) g)) c-tail
       (λ i j a b. rw (← in-parts i j, ← in-rows i j) (rw (f, g) at (C .shares i j a b)))
       ∙ rw (S .place, S .rows, S .parties)
 
-  pub turned-back : F ≡ byParts place rows → G ≡ byRows place parties → c ≡ onto (sheetForm s) xs
+  pub turned-back : F ≡ columnGrid place rows → G ≡ sheetGrid place parties → c ≡ onto (sheetForm s) xs
   unfolding sheetForm
   turned-back f g =
       all-written s xs c place parties rows (omega (arith, S .whole)) c-room (c-head (ap (λ (x : Grid). x .first) g)) c-tail

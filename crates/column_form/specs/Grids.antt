@@ -7,34 +7,34 @@ use lib.ListN.{length, take, drop}
 use Rattle.algebra.specs.Lists.{ontoAt}
 use Rattle.column_form.specs.declared.grid.Grid.{Grid}
 
--- the place of the share that is i rows and j parties past the first
+-- the place of the share that is i rows down and j parties across from the first
 abbrev pub placeIn : Grid → ℕ → ℕ → ℕ
-placeIn G i j = G .first + G .row * i + G .party * j
+placeIn G i j = G .first + G .down * i + G .across * j
 
--- the grid of a sheet, row after row: so many parties, the first share at a place
-abbrev pub byRows : (place parties : ℕ) → Grid
-byRows place parties = record { first = place; row = 4 * parties; party = 4 }
+-- the grid of a sheet, row after row: so many parties in a row, the first share at a place
+abbrev pub sheetGrid : (place parties : ℕ) → Grid
+sheetGrid place parties = record { first = place; down = 4 * parties; across = 4 }
 
--- the grid of a column form, part after part: so many rows
-abbrev pub byParts : (place rows : ℕ) → Grid
-byParts place rows = record { first = place; row = 4; party = 4 * rows }
+-- the grid of a column form, part after part: so many rows in a part
+abbrev pub columnGrid : (place rows : ℕ) → Grid
+columnGrid place rows = record { first = place; down = 4; across = 4 * rows }
 
 -- the same grid, begun so many bytes further on
 abbrev pub furtherOn : ℕ → Grid → Grid
-furtherOn bytes G = record { first = G .first + bytes; row = G .row; party = G .party }
+furtherOn bytes G = record { first = G .first + bytes; down = G .down; across = G .across }
 
 -- The last share of so many rows and parties ends within so many bytes. Both steps together are at most 4 + 4 * 2,096, as in the largest column form.
 pub record Fits (G : Grid) (rows parties size : ℕ) : Type 0 where
-  pub last : G .first + G .row * rows + G .party * parties + 4 ≤ size + G .row + G .party
-  pub steps : G .row + G .party ≤ 8388
+  pub last : G .first + G .down * rows + G .across * parties + 4 ≤ size + G .down + G .across
+  pub steps : G .down + G .across ≤ 8388
   pub most : size ≤ 59723
 
 -- no two shares overlap: the parties stand within a row, or the rows within a party's part
 pub data Spaced (G : Grid) (rows parties : ℕ) : Type 0 where
-  in-a-row : 4 ≤ G .party → G .party * parties ≤ G .row → Spaced G rows parties
-  in-a-part : 4 ≤ G .row → G .row * rows ≤ G .party → Spaced G rows parties
+  in-a-row : 4 ≤ G .across → G .across * parties ≤ G .down → Spaced G rows parties
+  in-a-part : 4 ≤ G .down → G .down * rows ≤ G .across → Spaced G rows parties
 
--- c after so many rows of the first party were copied to it from s, one after the other
+-- c after the shares of the grid's first party, of so many rows, were copied to it from s, one after the other
 unfoldable pub columnCopied : List ℕ → (from to : Grid) → (rows : ℕ) → List ℕ → List ℕ
 columnCopied s F G zero c = c
 columnCopied s F G (suc k) c = ontoAt (placeIn G k 0) (take 4 (drop (placeIn F k 0) s)) (columnCopied s F G k c)
@@ -42,7 +42,7 @@ columnCopied s F G (suc k) c = ontoAt (placeIn G k 0) (take 4 (drop (placeIn F k
 -- c after so many rows were copied to it, of so many parties
 unfoldable pub rowsCopied : List ℕ → (from to : Grid) → (rows parties : ℕ) → List ℕ → List ℕ
 rowsCopied s F G rows zero c = c
-rowsCopied s F G rows (suc j) c = columnCopied s (furtherOn (F .party * j) F) (furtherOn (G .party * j) G) rows (rowsCopied s F G rows j c)
+rowsCopied s F G rows (suc j) c = columnCopied s (furtherOn (F .across * j) F) (furtherOn (G .across * j) G) rows (rowsCopied s F G rows j c)
 
 -- c has the shares of s, from the places of one grid, at those of the other. It was xs before, and still is before the first share, and past as many
 -- bytes as s has.

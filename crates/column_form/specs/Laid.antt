@@ -10,7 +10,7 @@ use Rattle.model.specs.Sheet.{headerOf, inputsAt, rowCount}
 use Rattle.column_form.specs.declared.layout.Layout.{Layout}
 
 -- where the shares of s stand, and that s fits into an output of so many places
-pub record Stands (s : List ℕ) (room : ℕ) (r : Layout) : Type 0 where
+pub record LaidOut (s : List ℕ) (room : ℕ) (r : Layout) : Type 0 where
   pub place : r .place ≡ inputsAt (headerOf s)
   pub rows : r .rows ≡ rowCount (headerOf s)
   pub parties : r .parties ≡ headerOf s .n
@@ -20,7 +20,7 @@ pub record Stands (s : List ℕ) (room : ℕ) (r : Layout) : Type 0 where
   pub most-rows : r .rows ≤ 2096
   pub most-parties : r .parties ≤ 7
 
--- the number of the first of some tests that fails; where none does, the shares of s stand so
+-- the number of the first of some tests that fails; where none fails, `LaidOut`
 pub record Laid (tests : List (Bool × ℕ)) (s : List ℕ) (room : ℕ) (r : Layout) : Type 0 where
   pub number : r .number ≡ firstFailed tests
-  pub stands : r .number ≡ 0 → Stands s room r
+  pub stands : r .number ≡ 0 → LaidOut s room r

@@ -1,49 +1,50 @@
 // Where the shares stand in a sheet and in its column form.
 ghost use mathlib.Core.Path.{_≡_};
-ghost use Prim.Native.Nat.{_+_, _≤_};
-ghost use Rattle.column_form.specs.Grids.{byRows, byParts, furtherOn};
+ghost use Prim.Native.Nat.{_+_, _^_, _≤_, _<_};
+ghost use Rattle.column_form.specs.Grids.{sheetGrid, columnGrid, furtherOn};
 
-// The place of the first row's share of party 1, and how many bytes further on the shares of the next row and of the next party stand.
+// The place of the grid's first share, and how many bytes it is from a share down to the same party's in the next row, and across to the next party's in the
+// same row.
 pub struct Grid {
     pub first: usize,
-    pub row: usize,
-    pub party: usize,
+    pub down: usize,
+    pub across: usize,
 }
 
 impl Grid {
-    // 68,111 is 59,723 + 8,388: past the largest sheet by a step at most.
+    // The same grid, begun so many bytes further on.
     pub fn further_on(self, bytes: usize) -> Grid
-        requires { ⌜ self .first + bytes ≤ 68111 ⌝ }
+        requires { ⌜ self .first + bytes < 2 ^ 64 ⌝ }
         ensures { λ r. ⌜ r ≡ furtherOn bytes self ⌝ }
     {
         Grid {
             first: self.first + bytes,
-            row: self.row,
-            party: self.party,
+            down: self.down,
+            across: self.across,
         }
     }
 }
 
-// Row after row: in a sheet.
-pub fn by_rows(place: usize, parties: usize) -> Grid
+// A sheet has its shares row after row.
+pub fn sheet_grid(place: usize, parties: usize) -> Grid
     requires { ⌜ parties ≤ 7 ⌝ }
-    ensures { λ r. ⌜ r ≡ byRows place parties ⌝ }
+    ensures { λ r. ⌜ r ≡ sheetGrid place parties ⌝ }
 {
     Grid {
         first: place,
-        row: 4 * parties,
-        party: 4,
+        down: 4 * parties,
+        across: 4,
     }
 }
 
-// Part after part: in a column form.
-pub fn by_parts(place: usize, rows: usize) -> Grid
+// A column form has them part after part.
+pub fn column_grid(place: usize, rows: usize) -> Grid
     requires { ⌜ rows ≤ 2096 ⌝ }
-    ensures { λ r. ⌜ r ≡ byParts place rows ⌝ }
+    ensures { λ r. ⌜ r ≡ columnGrid place rows ⌝ }
 {
     Grid {
         first: place,
-        row: 4,
-        party: 4 * rows,
+        down: 4,
+        across: 4 * rows,
     }
 }

@@ -173,10 +173,10 @@ module _ (s : List ℕ) (w : Shaped s) where
         back-and-over = back-and-over;
       }
 
-  in-parts : InParts s (columnForm s)
-  in-parts =
-      let l = over .same-length in
-      parts s (columnForm s) (transposed-form s (columnForm s) over) (some-party s w) (omega (arith, shaped-length s w))
+  in-parts : (c : List ℕ) → IsColumnForm s c → InParts s c
+  in-parts c C =
+      let l = C .same-length in
+      parts s c C (some-party s w) (omega (arith, shaped-length s w))
 
 module _ (s out : List ℕ) where
   -- a sheet's other tests have numbers above 4

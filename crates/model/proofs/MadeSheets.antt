@@ -16,7 +16,7 @@ use Rattle.model.specs.Sharing.{share, Sharing}
 use Rattle.model.specs.Steps.{Row, Deal}
 use Rattle.model.specs.Script.{Line, accepted, scriptOf}
 use Rattle.model.specs.Sheet.{Header, largestIn, settingOf, impliedLength, all, dealRows, goodMask, goodTriple, sharesBelow, aSharing, headerTests, limitTests, lengthTests, rowTests, sheetTests, sheetNumber, Permitted, sheetOf}
-use Rattle.model.specs.Making.{SheetRow, Parts, Says}
+use Rattle.model.specs.Making.{SheetRow, FitsHeader, Says}
 use Rattle.model.specs.Run.{start, runLines, outcome, supplyOf, runScript, sheetScript, stopOf, run}
 use Rattle.model.specs.Secrecy.{WellFormed}
 use Rattle.model.proofs.Fields.{below-four, fields}
@@ -71,7 +71,7 @@ module _ {h : Header} {script : List ℕ} {input : List Row} {xs : List Line} {e
   rows-are : All (Sharing (settingOf h .p) (h .n) (h .t)) (input ++ dealRows d)
   rows-are = all-append (F .sharings) (W .sharings)
 
-  parts : Parts h script input d
+  parts : FitsHeader h script input d
   parts =
       let L = fitting h (F .permitted) in
       record {

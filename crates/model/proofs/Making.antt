@@ -9,7 +9,7 @@ use lib.Seq.{length-take-le, take-at, drop-drop, drop-cons}
 use Rattle.algebra.specs.Lists.{Below}
 use Rattle.model.specs.Steps.{Row, Deal}
 use Rattle.model.specs.Sheet.{Header, headerOf, headerSize, inputsAt, impliedLength, rowCount, scriptIn, inputIn, dealIn, dealRows, bytesOf, rowBytes, headerBytes, sheetOf}
-use Rattle.model.specs.Making.{Parts, Says, Making}
+use Rattle.model.specs.Making.{FitsHeader, Says, Making}
 use Rattle.model.proofs.LittleEndian.{past, number-read, byte, number-fits, number-written}
 use Rattle.model.proofs.SheetRows.{length-rows, rows-append, rows-read, rows-written, rows-fit}
 use Rattle.model.proofs.SheetDeal.{implied, all-rows, Shape, shape-in, length-all, same}
@@ -21,7 +21,7 @@ unfolding sheetOf
 together h script input d = rw (rows-append (h .n) input (dealRows d))
 
 -- reading undoes making
-module _ (h : Header) (script : List ℕ) (input : List Row) (d : Deal) (P : Parts h script input d) where
+module _ (h : Header) (script : List ℕ) (input : List Row) (d : Deal) (P : FitsHeader h script input d) where
   shape : Shape h input d
   shape = record { inputs = P .inputs-length; masks = P .masks-length; triples = P .triples-length; each = P .mask-lengths }
 
@@ -72,7 +72,7 @@ header-written s b l =
 
 -- making undoes reading
 module _ (s : List ℕ) (b : Below 256 s) (e : length s ≡ impliedLength (headerOf s)) (n-fits : headerOf s .n < 8) where
-  parts-fit : Parts (headerOf s) (scriptIn (headerOf s) s) (inputIn (headerOf s) s) (dealIn (headerOf s) s)
+  parts-fit : FitsHeader (headerOf s) (scriptIn (headerOf s) s) (inputIn (headerOf s) s) (dealIn (headerOf s) s)
   unfolding headerOf scriptIn
   parts-fit =
       let S = shape-in (headerOf s) s in
@@ -103,7 +103,7 @@ module _ (s : List ℕ) (b : Below 256 s) (e : length s ≡ impliedLength (heade
 
 -- the same of any parts that the bytes say
 undoes : (s : List ℕ) → Below 256 s → (h : Header) (script : List ℕ) (input : List Row) (d : Deal) → Says s h script input d → h .n < 8
-    → Parts h script input d × (sheetOf h script input d ≡ s)
+    → FitsHeader h script input d × (sheetOf h script input d ≡ s)
 undoes s b h script input d R n-fits =
     rw (← R .script-is, ← R .input-is, ← R .deal-is, ← R .header-is)
     (let e = rw (← R .header-is) at (R .length-is) in

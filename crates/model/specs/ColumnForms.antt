@@ -33,7 +33,7 @@ Shaped s = firstFailed (shapeTests s) ≡ 0
 
 -- the forms, for every input that is not refused with 1 to 4
 pub record Forms (s : List ℕ) : Type 0 where
-  -- one list is the column form of s, and of one list s is the column form
+  -- exactly one list is the column form of s, and s is the column form of exactly one list
   pub columns : (c : List ℕ) → IsColumnForm s c ↔ (c ≡ columnForm s)
   pub sheet : (x : List ℕ) → IsColumnForm x s ↔ (x ≡ sheetForm s)
   -- neither is refused with 1 to 4, and the header is the same
@@ -58,9 +58,9 @@ pub record InParts (s c : List ℕ) : Type 0 where
 
 -- "Answers, the number alone"
 pub record TurnNumbers (s out : List ℕ) : Type 0 where
-  -- "1 to 4 as in the paper": of 1 to 8, which a run tries first, the number where it is 4 at most
+  -- "1 to 4 as in the paper". A run tries 1 to 8 first (`sheetNumber`): where that number is 4 at most, it is the number here.
   pub as-sheet : sheetNumber s ≤ 4 → firstFailed (shapeTests s) ≡ sheetNumber s
-  -- where a run refuses rows or deal (5 to 8), none of 1 to 4 refuses
+  -- where a run refuses rows or deal, with 5 to 8, none of 1 to 4 refuses
   pub rows-refused : 5 ≤ sheetNumber s → sheetNumber s ≤ 8 → Shaped s
   pub first : firstFailed (shapeTests s) ≢ 0 → turnNumber s out ≡ firstFailed (shapeTests s)
   -- "then 15, the output buffer is shorter than the sheet"
@@ -84,7 +84,8 @@ pub record Leaves (form other : List ℕ → List ℕ) (s out : List ℕ) : Type
 -- for every list of numbers, and every output
 pub record ColumnForms : Type 0 where
   pub forms : (s : List ℕ) → Shaped s → Forms s
-  pub parts : (s : List ℕ) → Shaped s → InParts s (columnForm s)
+  -- of every column form, so also of an input that is turned back: it is the column form of that sheet
+  pub parts : (s : List ℕ) → Shaped s → (c : List ℕ) → IsColumnForm s c → InParts s c
   pub numbers : (s out : List ℕ) → TurnNumbers s out
   pub to-columns : (s out : List ℕ) → Leaves columnForm sheetForm s out
   pub to-sheet : (c out : List ℕ) → Leaves sheetForm columnForm c out

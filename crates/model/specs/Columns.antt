@@ -18,7 +18,8 @@ unfoldable pub sharesFrom : List ℕ → ℕ → ℕ → ℕ → List ℕ
 sharesFrom s step i zero = []
 sharesFrom s step i (suc count) = take 4 (drop i s) ++ sharesFrom s step (i + step) count
 
--- From place i on, s has `groups` groups, each of `size` shares: share 1 of each, then share 2 of each, and so on up to share k.
+-- Of groups that have `size` shares each: one share of every group, which is at place i in the first group; then the next share of every group; and so on,
+-- k shares of every group.
 unfoldable pub regrouped : List ℕ → (groups size : ℕ) → ℕ → ℕ → List ℕ
 regrouped s groups size i zero = []
 regrouped s groups size i (suc k) = sharesFrom s (4 * size) i groups ++ regrouped s groups size (i + 4) k
@@ -51,8 +52,7 @@ partAt h j = inputsAt h + (j - 1) * partLength h
 unfoldable pub partOf : Header → ℕ → List ℕ → List ℕ
 partOf h j c = take (partLength h) (drop (partAt h j) c)
 
--- The shares in a part, as numbers, "inputs, masks, triples in sheet order". Counted from 0, the inputs begin at 0; the masks at h .inputs, each of
--- maskBits h shares, bit 0 first; the triples at h .inputs + maskBits h * h .masks, each of three shares, of a, b and c.
+-- the shares in a part, as numbers, "inputs, masks, triples in sheet order"
 unfoldable pub sharesIn : Header → List ℕ → List ℕ
 sharesIn h part = tab (rowCount h) (λ i. number 4 part (4 * i))
 

@@ -1,4 +1,4 @@
--- Reading undoes making, and making undoes reading: a sheet's bytes and its parts say the same.
+-- Reading undoes making, and making undoes reading: a sheet's bytes say the same as its header, script, input and deal.
 -- Assumes nothing.
 use mathlib.Core.Path.{_≡_}
 use mathlib.Core.List.{List, _++_, List·Memᴰ as In}
@@ -14,8 +14,8 @@ pub record SheetRow (n : ℕ) (x : Row) : Type 0 where
   pub is : x ≡ row n (λ j. getD x j 0)
   pub small : (j : ℕ) → j < n → getD x j 0 < 2 ^ 32
 
--- parts that fit a header: each header number fits its bytes, and script, input and deal are as long as it says
-pub record Parts (h : Header) (script : List ℕ) (input : List Row) (d : Deal) : Type 0 where
+-- script, input and deal fit a header: each header number fits its bytes, and they are as long as it says
+pub record FitsHeader (h : Header) (script : List ℕ) (input : List Row) (d : Deal) : Type 0 where
   pub field-fits : h .field < 256
   pub n-fits : h .n < 8
   pub t-fits : h .t < 256
@@ -30,7 +30,7 @@ pub record Parts (h : Header) (script : List ℕ) (input : List Row) (d : Deal) 
   pub mask-lengths : (m : List Row) → In m (d .masks) → length m ≡ maskBits h
   pub rows : (x : Row) → In x (input ++ dealRows d) → SheetRow (h .n) x
 
--- what the bytes s say, read: these parts, and no bytes more
+-- what the bytes s say, read: this header, script, input and deal, and no bytes more
 pub record Says (s : List ℕ) (h : Header) (script : List ℕ) (input : List Row) (d : Deal) : Type 0 where
   pub length-is : length s ≡ impliedLength h
   pub header-is : headerOf s ≡ h
@@ -40,7 +40,7 @@ pub record Says (s : List ℕ) (h : Header) (script : List ℕ) (input : List Ro
 
 -- Reading undoes making, and making undoes reading.
 pub record Making : Type 0 where
-  pub reading-undoes : (h : Header) (script : List ℕ) (input : List Row) (d : Deal) → Parts h script input d
+  pub reading-undoes : (h : Header) (script : List ℕ) (input : List Row) (d : Deal) → FitsHeader h script input d
       → Says (sheetOf h script input d) h script input d
   pub making-undoes : (s : List ℕ) → Below 256 s → (h : Header) (script : List ℕ) (input : List Row) (d : Deal) → Says s h script input d
-      → h .n < 8 → Parts h script input d × (sheetOf h script input d ≡ s)
+      → h .n < 8 → FitsHeader h script input d × (sheetOf h script input d ≡ s)

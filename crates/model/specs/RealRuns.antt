@@ -1,4 +1,4 @@
--- Demand 3 is about runs that there are: each well-formed deal makes an accepted sheet, which reads as the parts that it is made of; and the deal of
+-- Demand 3 is about runs that there are: each well-formed deal makes an accepted sheet, which reads as what it is made of; and the deal of
 -- an accepted sheet is one of these deals, and where the sheet consists of bytes, the sheet made on that deal is itself.
 -- Assumes nothing.
 use mathlib.Core.Path.{_≡_}

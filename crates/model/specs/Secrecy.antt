@@ -45,7 +45,7 @@ pub record SameTo (set : List ℕ) (x y : Outcome) : Type 0 where
   pub columns : Alike set (x .registers) (y .registers)
 
 -- "Running an input on a deal is running the sheet made of header, script, input and deal": those of the sheet s but for the deal. That this sheet
--- is accepted and has these parts is stated in RealRuns.antt.
+-- is accepted and has these is stated in RealRuns.antt.
 abbrev pub madeOn : List ℕ → Deal → List ℕ
 madeOn s d = sheetOf (headerOf s) (scriptIn (headerOf s) s) (inputIn (headerOf s) s) d
 

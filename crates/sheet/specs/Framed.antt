@@ -1,4 +1,4 @@
--- The paper, "The sheet": a frame holds what a header says, and where the parts of a sheet stand.
+-- The paper, "The sheet": a frame holds what a header says, and where script, input and deal of a sheet stand.
 -- Assumes nothing.
 use mathlib.Core.Path.{_≡_}
 use mathlib.Core.List.{List}

@@ -63,7 +63,7 @@ impl Draft {
     }
 
     /// Header and script. The script's bytes count from 201 to 250, over and over, so it has no command.
-    fn front(&self) -> Vec<u8> {
+    fn head(&self) -> Vec<u8> {
         let mut bytes = self.header();
         bytes.extend((201..=250).cycle().take(usize::from(self.script)));
         bytes
@@ -72,7 +72,7 @@ impl Draft {
     /// With a script that counts, and shares whose bytes count from 1 to 199, over and over: up to 199
     /// shares are all different.
     pub fn counting(&self) -> Vec<u8> {
-        let mut bytes = self.front();
+        let mut bytes = self.head();
         bytes.extend((1..=199).cycle().take(self.shares()));
         bytes
     }
@@ -95,7 +95,7 @@ impl Draft {
 
     /// With these shares, and a script that counts.
     pub fn with_shares(&self, shares: impl IntoIterator<Item = u32>) -> Vec<u8> {
-        let mut bytes = self.front();
+        let mut bytes = self.head();
         bytes.extend(shares.into_iter().flat_map(u32::to_le_bytes));
         bytes
     }

@@ -1,4 +1,4 @@
--- `shares::copy_blocks` meets its contract: a block a turn, and the rows that are left.
+-- `shares::copy_blocks` meets its contract: one block after the other, and the rows that are left.
 -- Assumes nothing.
 use borrow.Author.Needs.{needs}
 use Rattle.column_form.proofs.Blocks.{BlockLoop, block-start, block-length, block-room, block-reads, block-writes, rest-reads, rest-writes, block-reads-on, block-writes-on, next-block, last-block}

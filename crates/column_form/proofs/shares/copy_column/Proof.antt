@@ -1,4 +1,4 @@
--- `shares::copy_column` meets its contract: a share a turn.
+-- `shares::copy_column` meets its contract: one share after the other.
 -- Assumes nothing.
 use Prim.Native.Nat.{_-_}
 use borrow.Author.Needs.{needs}

@@ -1,4 +1,4 @@
--- `shares::copy_rows` meets its contract: a party a turn.
+-- `shares::copy_rows` meets its contract: one party after the other.
 -- Assumes nothing.
 use Prim.Native.Nat.{_-_}
 use borrow.Author.Needs.{needs}
