@@ -8,7 +8,7 @@ use report::number::number;
 use report::number::put;
 
 fn main() {
-    let mut input = [0u8; 400000];
+    let mut input = [0u8; 440000];
     let got = io::read_full(0, &mut input);
     run_cases(&input[..got]);
 }

@@ -1,5 +1,5 @@
 //! Good headers: every number of parties with every threshold in every field, kinds of rows that are
-//! missing, and counts of two bytes.
+//! missing, counts of two bytes, and numbers of rows about 256.
 
 use super::Told;
 use crate::cases::generator::Generator;
@@ -11,6 +11,7 @@ pub fn all(generator: &mut Generator) -> Vec<Told> {
     let mut drafts = everywhere();
     drafts.extend(lacking());
     drafts.extend(wide_counts());
+    drafts.extend(many_rows());
     let turned = |(place, draft): (usize, Draft)| {
         let input = draft.drawn(generator);
         let lent = input.len() + place % 3;
@@ -63,5 +64,15 @@ fn wide_counts() -> [Draft; 3] {
         plain.with_rows(0, 0, 258),
         plain.with_script(256),
         plain.with_script(515).with_rows(2, 0, 0),
+    ]
+}
+
+/// 256, 257 and 513 rows: the library copies rows in blocks of 256.
+fn many_rows() -> [Draft; 3] {
+    let plain = Draft::plain();
+    [
+        plain.with_rows(1, 0, 85),
+        plain.with_rows(2, 0, 85),
+        plain.with_rows(3, 0, 170),
     ]
 }
