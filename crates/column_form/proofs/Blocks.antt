@@ -2,14 +2,14 @@
 -- Assumes nothing.
 use mathlib.Core.Path.{_≡_, _∙_}
 use mathlib.Core.List.{List}
-use Prim.Native.Nat.{ℕ, zero, _+_, _*_, _-_, _≤_, _<_, _^_}
+use Prim.Native.Nat.{ℕ, _+_, _*_, _-_, _≤_, _<_, _^_}
 use native.Mathlib.Nat.{mul-zero}
 use native.Mathlib.Omega.{arith}
 use lib.ListN.{length}
-use Rattle.column_form.specs.Grids.{furtherOn, Fits, Spaced, rowsCopied, Copied}
+use Rattle.column_form.specs.Grids.{furtherOn, Fits, Spaced, rowsCopied, Partly, Copied}
 use Rattle.column_form.specs.declared.grid.Grid.{Grid}
 use Rattle.column_form.proofs.Places.{fits-on}
-use Rattle.column_form.proofs.Partly.{Partly, none-copied, block-more, all-copied}
+use Rattle.column_form.proofs.Partly.{none-copied, block-more}
 use Rattle.column_form.proofs.Parties.{further-none, further-twice}
 
 -- `copy_blocks` has copied some rows; those that are left begin at the grid read, and go to the grid write.
@@ -83,4 +83,4 @@ module _ {s : List ℕ} {F G : Grid} {rows parties : ℕ} {xs : List ℕ} {read 
     pub last-block : {next : List ℕ} → next ≡ rowsCopied s read write left parties out → Copied s F G rows parties xs next
     last-block {next} e =
         let z = L .all-rows in
-        all-copied s F G rows parties xs (rw e (rw z at (rows-done left (omega arith))))
+        rw e (rw z at (rows-done left (omega arith)))

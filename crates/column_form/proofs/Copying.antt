@@ -5,10 +5,11 @@ use mathlib.Core.List.{List, [], _∷_, _++_, append-assoc}
 use Prim.Native.Nat.{ℕ, zero, suc, _+_, _^_, _≤_, _<_}
 use native.Mathlib.Numerals.{add-one}
 use native.Mathlib.Omega.{arith}
-use lib.ListN.{length, getD, set, take, drop, length-drop}
-use lib.Seq.{sets-eq, drop-cons, drop-drop, length-take-le}
+use lib.ListN.{length, getD, set, take, drop}
+use lib.Seq.{sets-eq, drop-cons, drop-drop}
 use Rattle.algebra.specs.Lists.{onto, ontoAt}
 use Rattle.algebra.proofs.Lists.{Writing, writing-length, length-onto-at}
+use Rattle.model.proofs.Transposing.{length-share}
 use Rattle.column_form.specs.Grids.{placeIn, Fits, columnCopied}
 use Rattle.column_form.specs.declared.grid.Grid.{Grid}
 use Rattle.column_form.proofs.Places.{within}
@@ -49,7 +50,7 @@ column-length s F G rows c f g room zero h = refl
 column-length s F G rows c f g room (suc k) h =
     let e = column-length s F G rows c f g room k (omega arith) in
     length-onto-at (placeIn G k 0) _ _
-    (rw (length-take-le 4 (drop (placeIn F k 0) s) (rw length-drop (omega (arith, within f k 0 h (omega arith))))) (omega (arith, e, within g k 0 h (omega arith))))
+    (rw (length-share s (placeIn F k 0) (within f k 0 h (omega arith))) (omega (arith, e, within g k 0 h (omega arith))))
     ∙ e
 
 -- `copy_column` has copied k shares; the next is at place read, and goes to place write.

@@ -1,25 +1,18 @@
 -- Shares copied one after the other, in whichever order: those that were copied stay so, until all are.
 -- Assumes nothing.
-use mathlib.Core.Path.{_≡_, refl, sym, ap, _∙_}
+use mathlib.Core.Path.{_≡_, refl, sym, _∙_}
 use mathlib.Core.Logic.{_⊎_, inl, inr, ⊎-elim}
 use mathlib.Core.List.{List}
 use Prim.Native.Nat.{ℕ, zero, suc, _+_, _*_, _≤_, _<_}
 use native.Mathlib.Nat.{le-suc-iff}
 use native.Mathlib.Omega.{arith}
-use lib.ListN.{length, take, drop, length-drop}
-use lib.Seq.{length-take-le}
+use lib.ListN.{length, take, drop}
 use Rattle.algebra.specs.Lists.{ontoAt}
 use Rattle.algebra.proofs.Lists.{length-onto-at, take-onto-at, drop-past}
-use Rattle.column_form.specs.Grids.{placeIn, furtherOn, Fits, Spaced, columnCopied, rowsCopied, Copied}
+use Rattle.model.proofs.Transposing.{length-share}
+use Rattle.column_form.specs.Grids.{placeIn, furtherOn, Fits, Spaced, columnCopied, rowsCopied, Partly}
 use Rattle.column_form.specs.declared.grid.Grid.{Grid}
 use Rattle.column_form.proofs.Places.{within, Order, below, same, above, order, Apart, at-once, before, behind, apart, written-here, written-behind, written-before}
-
--- `Copied` of the rows and parties that are done
-pub record Partly (s : List ℕ) (F G : Grid) (rows parties : ℕ) (Done : ℕ → ℕ → Type 0) (xs c : List ℕ) : Type 0 where
-  pub same-length : length c ≡ length xs
-  pub head : take (G .first) c ≡ take (G .first) xs
-  pub tail : drop (length s) c ≡ drop (length s) xs
-  pub shares : (i j : ℕ) → i < rows → j < parties → Done i j → take 4 (drop (placeIn G i j) c) ≡ take 4 (drop (placeIn F i j) s)
 
 module _ (s : List ℕ) (F G : Grid) (rows parties : ℕ) (xs : List ℕ) where
   abbrev After : (ℕ → ℕ → Type 0) → List ℕ → Type 0
@@ -33,7 +26,7 @@ module _ (s : List ℕ) (F G : Grid) (rows parties : ℕ) (xs : List ℕ) where
 
       four : length share ≡ 4
       unfolding share
-      four = length-take-le 4 (drop (placeIn F i j) s) (rw length-drop (omega (arith, within reads i j hi hj)))
+      four = length-share s (placeIn F i j) (within reads i j hi hj)
 
       long : placeIn G i j + 4 ≤ length c
       long = omega (arith, within writes i j hi hj, P .same-length)
@@ -106,6 +99,3 @@ module _ (s : List ℕ) (F G : Grid) (rows parties : ℕ) (xs : List ℕ) where
 
   pub none-copied : After (λ i j. i < 0) xs
   none-copied = record { same-length = refl; head = refl; tail = refl; shares = λ i j hi hj d. absurd (omega arith) }
-
-  pub all-copied : {c : List ℕ} → After (λ i j. i < rows) c → Copied s F G rows parties xs c
-  all-copied P = record { same-length = P .same-length; head = P .head; tail = P .tail; shares = λ i j hi hj. P .shares i j hi hj hi }

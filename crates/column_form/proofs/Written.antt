@@ -110,12 +110,12 @@ module _ (s xs ys c : List ℕ) {F G : Grid} {l : Layout} (S : LaidOut s (length
   unfolding columnForm
   turned-over f g =
       all-written s xs c place rows parties (S .whole) c-room (c-head (ap (λ (x : Grid). x .first) g)) c-tail
-      (λ i j a b. rw (← in-parts i j, ← in-rows i j) (rw (f, g) at (C .shares i j a b)))
+      (λ i j a b. rw (← in-parts i j, ← in-rows i j) (rw (f, g) at (C .shares i j a b a)))
       ∙ rw (S .place, S .rows, S .parties)
 
   pub turned-back : F ≡ columnGrid place rows → G ≡ sheetGrid place parties → c ≡ onto (sheetForm s) xs
   unfolding sheetForm
   turned-back f g =
       all-written s xs c place parties rows (omega (arith, S .whole)) c-room (c-head (ap (λ (x : Grid). x .first) g)) c-tail
-      (λ j i a b. rw (← in-rows i j, ← in-parts i j) (rw (f, g) at (C .shares i j b a)))
+      (λ j i a b. rw (← in-rows i j, ← in-parts i j) (rw (f, g) at (C .shares i j b a b)))
       ∙ rw (S .place, S .rows, S .parties)

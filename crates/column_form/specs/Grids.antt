@@ -44,10 +44,14 @@ unfoldable pub rowsCopied : List ℕ → (from to : Grid) → (rows parties : �
 rowsCopied s F G rows zero c = c
 rowsCopied s F G rows (suc j) c = columnCopied s (furtherOn (F .across * j) F) (furtherOn (G .across * j) G) rows (rowsCopied s F G rows j c)
 
--- c has the shares of s, from the places of one grid, at those of the other. It was xs before, and still is before the first share, and past as many
--- bytes as s has.
-pub record Copied (s : List ℕ) (from to : Grid) (rows parties : ℕ) (xs c : List ℕ) : Type 0 where
+-- c has the shares of s, from the places of one grid, at those of the other: of those rows and parties that are done. It was xs before, and still is before
+-- the first share, and past as many bytes as s has.
+pub record Partly (s : List ℕ) (from to : Grid) (rows parties : ℕ) (Done : ℕ → ℕ → Type 0) (xs c : List ℕ) : Type 0 where
   pub same-length : length c ≡ length xs
   pub head : take (to .first) c ≡ take (to .first) xs
   pub tail : drop (length s) c ≡ drop (length s) xs
-  pub shares : (i j : ℕ) → i < rows → j < parties → take 4 (drop (placeIn to i j) c) ≡ take 4 (drop (placeIn from i j) s)
+  pub shares : (i j : ℕ) → i < rows → j < parties → Done i j → take 4 (drop (placeIn to i j) c) ≡ take 4 (drop (placeIn from i j) s)
+
+-- all rows of all parties are done
+abbrev pub Copied : List ℕ → (from to : Grid) → (rows parties : ℕ) → (xs c : List ℕ) → Type 0
+Copied s F G rows parties xs c = Partly s F G rows parties (λ i j. i < rows) xs c

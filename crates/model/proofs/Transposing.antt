@@ -10,7 +10,7 @@ use lib.Seq.{length-take-le, take-at, drop-at, take-add, drop-drop, take-append-
 use Rattle.model.specs.Columns.{sharesFrom, regrouped, transposed}
 
 -- four bytes from place i on
-length-share : (s : List ℕ) (i : ℕ) → i + 4 ≤ length s → length (take 4 (drop i s)) ≡ 4
+pub length-share : (s : List ℕ) (i : ℕ) → i + 4 ≤ length s → length (take 4 (drop i s)) ≡ 4
 length-share s i h = length-take-le 4 (drop i s) (rw length-drop (omega arith))
 
 -- Shares from place i on, each step bytes behind the one before it: the last of them ends within s.
