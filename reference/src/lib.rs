@@ -1,6 +1,6 @@
-//! Computes directly from the definitions what the proved library computes: sharing, recovery,
-//! signed coding, the steps, the run of a whole sheet, the import of a list of calls, and the column
-//! form of a sheet.
+//! Computes directly from the definitions what the proved library computes: sharing, recovery, the
+//! sum of which the secret is the remainder, signed coding, the steps, the run of a whole sheet, the
+//! import of a list of calls, and the column form of a sheet.
 
 pub mod calls;
 pub mod case;
@@ -22,5 +22,6 @@ pub mod sheets;
 pub mod signed;
 pub mod steps;
 pub mod stored_bytes;
+pub mod summing;
 pub mod table;
 pub mod weights;

@@ -132,12 +132,12 @@ pub fn check_parties(parties: u32, threshold: u32) -> Result<(), u32> {
     permitted.then_some(()).ok_or(refusal::PARTIES)
 }
 
-fn check_length(length: usize, expected: u32) -> Result<(), u32> {
+pub fn check_length(length: usize, expected: u32) -> Result<(), u32> {
     let right = u32::try_from(length) == Ok(expected);
     right.then_some(()).ok_or(refusal::LENGTH)
 }
 
-fn check_values(field: &Field, values: &[u32]) -> Result<(), u32> {
+pub fn check_values(field: &Field, values: &[u32]) -> Result<(), u32> {
     let below = values.iter().all(|&value| field.contains(value));
     below.then_some(()).ok_or(refusal::VALUE)
 }

@@ -31,6 +31,13 @@ impl Weights {
         self.value(&self.at_zero, row)
     }
 
+    /// The first t + 1 shares, each times its weight at 0, added and not reduced. Four products of
+    /// numbers below 2^31 fit.
+    pub fn sum(&self, row: &[u64]) -> u64 {
+        let products = self.at_zero.iter().zip(row);
+        products.map(|(&weight, &share)| weight * share).sum()
+    }
+
     /// Whether one polynomial of degree at most t takes share j at j.
     pub fn is_sharing(&self, row: &[u64]) -> bool {
         let later = &row[self.at_zero.len()..];
