@@ -22,6 +22,7 @@ pub enum Case {
     Recover(RecoverCase),
     Encode { field: u32, k: u32, a: i64 },
     Decode { field: u32, v: u32 },
+    Sum(SumCase),
 }
 
 #[derive(Clone, Debug, PartialEq)]
@@ -43,6 +44,14 @@ pub struct RecoverCase {
     pub row: Vec<u32>,
     /// The lent list's content before the call.
     pub lent: Vec<u32>,
+}
+
+#[derive(Clone, Debug, PartialEq)]
+pub struct SumCase {
+    pub field: u32,
+    pub parties: u32,
+    pub threshold: u32,
+    pub row: Vec<u32>,
 }
 
 impl Case {
@@ -75,6 +84,11 @@ impl Case {
             Case::Decode { field, v } => {
                 words[..5].copy_from_slice(&[3, *field, 0, 0, *v]);
             }
+            Case::Sum(case) => {
+                let start = [4, case.field, case.parties, case.threshold];
+                words[..4].copy_from_slice(&start);
+                put_list(&mut words, GIVEN, &case.row);
+            }
         }
         words
     }
@@ -106,7 +120,13 @@ impl Case {
                 field,
                 v: words[SECRET_OR_VALUE],
             }),
-            kind => Err(format!("kind {kind} is above 3")),
+            4 => Ok(Case::Sum(SumCase {
+                field,
+                parties: words[PARTIES_OR_K],
+                threshold: words[THRESHOLD],
+                row: take_list(words, GIVEN)?,
+            })),
+            kind => Err(format!("kind {kind} is above 4")),
         }
     }
 }
@@ -188,6 +208,21 @@ mod tests {
     }
 
     #[test]
+    fn a_sum_lends_nothing() {
+        let case = Case::Sum(SumCase {
+            field: 3,
+            parties: 4,
+            threshold: 1,
+            row: vec![5, 6, 7, 8],
+        });
+        let mut words = [0; WORDS];
+        words[..4].copy_from_slice(&[4, 3, 4, 1]);
+        words[8..13].copy_from_slice(&[4, 5, 6, 7, 8]);
+        assert_eq!(case.words(), words);
+        assert_eq!(Case::from_words(&words), Ok(case));
+    }
+
+    #[test]
     fn signed_numbers_keep_their_value() {
         for (a, sign, low, high) in [
             (0, 0, 0, 0),
@@ -209,7 +244,7 @@ mod tests {
         assert_eq!(read_all(&[]), Ok(vec![]));
         assert!(read_all(&[0; BYTES - 1]).is_err());
         assert!(read_all(&[0; BYTES + 1]).is_err());
-        for (word, value) in [(KIND, 4), (GIVEN, 10), (LENT, 10)] {
+        for (word, value) in [(KIND, 5), (GIVEN, 10), (LENT, 10)] {
             let mut bytes = [0; BYTES];
             bytes[4 * word] = value;
             assert!(read_all(&bytes).is_err(), "word {word}");

@@ -1,15 +1,19 @@
-//! The whole set of cases: chosen edges of each entry, the cases of the model's table, then generated cases.
+//! The whole set of cases: chosen edges of each entry, the cases of the model's table, then generated cases. Those of the sum come after all
+//! others, in the same order.
 
 mod decode_edges;
+mod drawn_sums;
 mod encode_edges;
 mod generated;
 pub mod generator;
 pub mod held;
 mod recover_edges;
 mod share_edges;
+mod sum_edges;
 
-use crate::case::{Case, RecoverCase, ShareCase, LONGEST};
+use crate::case::{Case, RecoverCase, ShareCase, SumCase, LONGEST};
 use crate::field::Field;
+use crate::weights::Weights;
 use generator::Generator;
 
 /// Every permitted pair of a number of parties and a threshold.
@@ -31,19 +35,30 @@ const UNKNOWN_FIELDS: [u32; 2] = [4, u32::MAX];
 /// Coefficients below every modulus, the first power's first.
 const SMALL: [u32; 9] = [2, 7, 1, 11, 3, 9, 4, 12, 6];
 
+/// Apart from the sequence of the other entries, so that one does not decide the other.
+const SUMS_SEED: u64 = 0x5EED_000E;
+
 pub fn all() -> Vec<Case> {
     let mut cases = share_edges::all();
     cases.extend(recover_edges::all());
     cases.extend(encode_edges::all());
     cases.extend(decode_edges::all());
-    cases.extend(held::all().into_iter().map(|(_, case)| case));
+    cases.extend(held::of_the_paper().into_iter().map(|(_, case)| case));
     cases.extend(generated::all());
+    cases.extend(sum_edges::all());
+    cases.extend(held::sums::all().into_iter().map(|(_, case)| case));
+    cases.extend(drawn_sums::all());
     cases
 }
 
-/// A good call of an entry, or one with wrong lengths or numbers out of range.
+/// A good call of share, recover, encode or decode, or one with wrong lengths or numbers out of range.
 pub fn case_for(seed: u64, index: u64) -> Case {
     generated::draw(&mut Generator::at(seed, index))
+}
+
+/// The sum of a sharing, of a damaged one, or of a row with a wrong length or numbers out of range.
+pub fn sum_for(seed: u64, index: u64) -> Case {
+    drawn_sums::draw(&mut Generator::at(seed ^ SUMS_SEED, index))
 }
 
 /// Every permitted pair, the first threshold that is too large for each permitted number of
@@ -97,6 +112,15 @@ fn recover_case(
     })
 }
 
+fn sum_case(field: u32, (parties, threshold): (u32, u32), row: &[u32]) -> Case {
+    Case::Sum(SumCase {
+        field,
+        parties,
+        threshold,
+        row: row.to_vec(),
+    })
+}
+
 /// Distinct numbers above every modulus: no entry can write one of them,
 /// so every write is seen.
 fn lent_list(length: u32) -> Vec<u32> {
@@ -117,6 +141,13 @@ pub fn row_of(field: &Field, secret: u32, coefficients: &[u32], length: u32) -> 
         .collect()
 }
 
+/// The sharing whose first t + 1 shares are these.
+fn row_from(field: &'static Field, (n, t): (u32, u32), first: &[u32]) -> Vec<u32> {
+    let first: Vec<u64> = first.iter().map(|&share| share.into()).collect();
+    let row = Weights::new(field, n as usize, t as usize).sharing_from(&first);
+    row.into_iter().map(|share| share as u32).collect()
+}
+
 #[cfg(test)]
 mod tests {
     use super::*;
@@ -124,11 +155,12 @@ mod tests {
     use crate::line;
 
     /// Every number that an entry can answer.
-    const ENTRIES: [(&str, &[u32]); 4] = [
+    const ENTRIES: [(&str, &[u32]); 5] = [
         ("share", &[0, 2, 3, 4, 5]),
         ("recover", &[0, 2, 3, 4, 5, 6]),
         ("encode", &[0, 2, 11]),
         ("decode", &[0, 2, 5]),
+        ("sum", &[0, 2, 3, 4, 5, 6]),
     ];
 
     /// How many lines are the entry's and tell this number.
@@ -145,7 +177,7 @@ mod tests {
     #[test]
     fn number_of_cases_is_within_bounds() {
         let count = all().len();
-        assert!((400..=1_000).contains(&count), "{count}");
+        assert!((400..=1_160).contains(&count), "{count}");
     }
 
     #[test]
@@ -171,9 +203,8 @@ mod tests {
 
     #[test]
     fn every_number_of_every_entry_is_drawn() {
-        let lines: Vec<_> = (0..5_000)
-            .map(|index| line::answer(&case_for(5, index)))
-            .collect();
+        let drawn = (0..5_000).flat_map(|index| [case_for(5, index), sum_for(5, index)]);
+        let lines: Vec<_> = drawn.map(|case| line::answer(&case)).collect();
         for (entry, numbers) in ENTRIES {
             for number in numbers {
                 let found = count(&lines, entry, *number);

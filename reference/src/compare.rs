@@ -12,6 +12,7 @@ use crate::cases::generator::Generator;
 use crate::run;
 use crate::sharing::{recover, share};
 use crate::signed::{decode, encode};
+use crate::summing::sum;
 
 pub const CELLS: usize = 448;
 pub const MARKS: usize = 64;
@@ -106,8 +107,9 @@ impl Ran {
 #[derive(Clone, Debug, PartialEq)]
 pub struct Entered {
     pub number: u32,
-    /// The secret, the value or the signed number; 0 for sharing, which has none.
-    pub value: i64,
+    /// The secret, the value, the signed number or the sum, which all fit; 0 for sharing, which has
+    /// none.
+    pub value: i128,
     pub lent: Vec<u32>,
 }
 
@@ -126,13 +128,20 @@ impl Entered {
                 lent.clone_from(&call.lent);
                 let (n, t) = (call.parties, call.threshold);
                 let (number, secret) = recover(call.field, n, t, &call.row, &mut lent);
-                (number, i64::from(secret))
+                (number, i128::from(secret))
             }
             Case::Encode { field, k, a } => {
                 let (number, value) = encode(*field, *k, *a);
-                (number, i64::from(value))
+                (number, i128::from(value))
             }
-            Case::Decode { field, v } => decode(*field, *v),
+            Case::Decode { field, v } => {
+                let (number, signed) = decode(*field, *v);
+                (number, i128::from(signed))
+            }
+            Case::Sum(call) => {
+                let (number, sum) = sum(call.field, call.parties, call.threshold, &call.row);
+                (number, i128::from(sum))
+            }
         };
         Entered {
             number,
@@ -216,7 +225,7 @@ fn list_difference<T: PartialEq + Display>(
 #[cfg(test)]
 mod tests {
     use super::*;
-    use crate::cases::case_for;
+    use crate::cases::{case_for, sum_for};
     use crate::sheets::{bench, sheet_for};
 
     fn ran(lengths: Lengths) -> Ran {
@@ -297,8 +306,8 @@ mod tests {
 
     #[test]
     fn every_change_of_an_entry_is_a_difference() {
-        for index in 0..200 {
-            let entered = Entered::by_reference(&case_for(1, index));
+        for case in (0..200).flat_map(|index| [case_for(1, index), sum_for(1, index)]) {
+            let entered = Entered::by_reference(&case);
             assert_eq!(entered.difference(&entered.clone()), None);
             let mut other = entered.clone();
             other.value += 1;

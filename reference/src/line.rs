@@ -1,8 +1,9 @@
 //! The line that tells a case and its answer.
 
-use crate::case::{Case, RecoverCase, ShareCase};
+use crate::case::{Case, RecoverCase, ShareCase, SumCase};
 use crate::sharing::{recover, share};
 use crate::signed::{decode, encode};
+use crate::summing::sum;
 
 pub fn answer(case: &Case) -> String {
     match case {
@@ -16,6 +17,7 @@ pub fn answer(case: &Case) -> String {
             let (number, signed) = decode(*field, *v);
             format!("decode field {field} value {v} : number {number} signed {signed}\n")
         }
+        Case::Sum(case) => sum_answer(case),
     }
 }
 
@@ -58,6 +60,21 @@ fn recover_answer(case: &RecoverCase) -> String {
     format!(
         "recover field {field} parties {parties} threshold {threshold} row{row} \
          lent{lent} : number {number} value {value} left{left}\n"
+    )
+}
+
+fn sum_answer(case: &SumCase) -> String {
+    let SumCase {
+        field,
+        parties,
+        threshold,
+        row,
+    } = case;
+    let (number, sum) = sum(*field, *parties, *threshold, row);
+    let row = list(row);
+    format!(
+        "sum field {field} parties {parties} threshold {threshold} row{row} \
+         : number {number} sum {sum}\n"
     )
 }
 
@@ -113,6 +130,25 @@ mod tests {
             answer(&Case::Recover(case)),
             "recover field 0 parties 3 threshold 1 row 7 9 12 lent 90 \
              : number 6 value 0 left 90\n"
+        );
+    }
+
+    #[test]
+    fn sum_line_shows_the_sum() {
+        let mut case = SumCase {
+            field: 0,
+            parties: 3,
+            threshold: 1,
+            row: vec![7, 9, 11],
+        };
+        assert_eq!(
+            answer(&Case::Sum(case.clone())),
+            "sum field 0 parties 3 threshold 1 row 7 9 11 : number 0 sum 122\n"
+        );
+        case.row.clear();
+        assert_eq!(
+            answer(&Case::Sum(case)),
+            "sum field 0 parties 3 threshold 1 row : number 4 sum 0\n"
         );
     }
 

@@ -50,7 +50,7 @@ pub fn text(name: &str) -> Option<String> {
             sheet_rows(&sheets::masked()),
         )),
         "EntryCases" => Some(file(
-            "The paper, \"Fields and parties\": calls of the small entries, and what they answer.",
+            "The paper, \"Fields and parties\", and request 4, \"Sum first, reduce after\": calls of the small entries, and what they answer.",
             ("Entry", "entryCases"),
             calls::all()
                 .iter()
@@ -104,6 +104,7 @@ fn file(subject: &str, (kind, name): (&str, &str), rows: Vec<Row>) -> String {
         "scripted",
         "shared",
         "recovered",
+        "summed",
         "encoded",
         "decoded",
         "took",
@@ -146,9 +147,12 @@ fn body(rows: Vec<Row>) -> String {
     body
 }
 
-/// Lines are broken before an operator.
+/// Lines are broken before an operator, and not between pos and its number.
 fn wrapped(part: &str) -> String {
-    let part = part.replace("∷ ", "∷_").replace("++ ", "++_");
+    let kept = ["∷", "++", "pos"];
+    let part = kept.iter().fold(part.to_owned(), |part, word| {
+        part.replace(&format!("{word} "), &format!("{word}_"))
+    });
     let mut text = String::new();
     let mut line = String::from("   ");
     for word in part.split(' ') {
@@ -159,7 +163,7 @@ fn wrapped(part: &str) -> String {
         line += &format!(" {word}");
     }
     text += &format!("{line}\n");
-    text.replace("∷_", "∷ ").replace("++_", "++ ")
+    text.replace('_', " ")
 }
 
 fn sheet_rows(all: &[Held]) -> Vec<Row> {
@@ -287,7 +291,7 @@ fn output(numbers: &[u16]) -> String {
     }
 }
 
-/// The call, and what it answers. Encode and decode leave no list, and share has no value.
+/// The call, and what it answers. Encode, decode and sum leave no list, and share has no value.
 fn entry(call: &Case) -> String {
     let entered = Entered::by_reference(call);
     let (number, value, left) = (entered.number, signed(entered.value), list(&entered.lent));
@@ -310,13 +314,21 @@ fn entry(call: &Case) -> String {
             call.lent.len()
         ),
         Case::Encode { field, k, a } => {
-            format!("encoded {field} {k} {} {number} {value}", signed(*a))
+            let a = signed((*a).into());
+            format!("encoded {field} {k} {a} {number} {value}")
         }
         Case::Decode { field, v } => format!("decoded {field} {v} {number} {value}"),
+        Case::Sum(call) => format!(
+            "summed {} {} {} {} {number} {value}",
+            call.field,
+            call.parties,
+            call.threshold,
+            list(&call.row)
+        ),
     }
 }
 
-fn signed(a: i64) -> String {
+fn signed(a: i128) -> String {
     if a < 0 {
         format!("(negℤ (pos {}))", -a)
     } else {
@@ -409,6 +421,10 @@ mod tests {
         assert!(text("ScriptCases").unwrap().contains(row));
         let row = "    -- 31: a line break alone is an empty line: <CR><LF>\n    ∷ took (13 ∷ 10 ∷ []) 1 31 0 (99 ∷ [])\n";
         assert!(text("CallCases").unwrap().contains(row));
+        let row = "    -- sum 2 times 7 and 12 times 9\n    ∷ summed 0 3 1 (7 ∷ 9 ∷ 11 ∷ []) 0 (pos 122)\n";
+        assert!(text("EntryCases").unwrap().contains(row));
+        let row = " ∷ []) 0\n    (pos 9223372026117357570)\n";
+        assert!(text("EntryCases").unwrap().contains(row));
         let row = "    -- 1: no byte, to the sheet\n    ∷ asSheet [] 12 1 (from 100 12)\n";
         assert!(text("ColumnCases").unwrap().contains(row));
     }

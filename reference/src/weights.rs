@@ -38,6 +38,13 @@ impl Weights {
         products.map(|(&weight, &share)| weight * share).sum()
     }
 
+    /// The sharing whose first t + 1 shares are these.
+    pub fn sharing_from(&self, first: &[u64]) -> Vec<u64> {
+        let later = self.at_later.iter();
+        let later = later.map(|weights| self.value(weights, first));
+        first.iter().copied().chain(later).collect()
+    }
+
     /// Whether one polynomial of degree at most t takes share j at j.
     pub fn is_sharing(&self, row: &[u64]) -> bool {
         let later = &row[self.at_zero.len()..];
@@ -80,6 +87,22 @@ mod tests {
     use crate::cases::{row_of, PERMITTED};
     use crate::field::FIELDS;
     use crate::sharing::recover;
+
+    #[test]
+    fn a_sharing_can_start_with_any_shares() {
+        let mut generator = Generator::new(5);
+        for (number, field) in (0..).zip(&FIELDS) {
+            for (n, t) in PERMITTED {
+                let weights = Weights::new(field, n as usize, t as usize);
+                let first = generator.list(t as usize + 1, field.modulus);
+                let row: Vec<u64> = first.iter().map(|&share| share.into()).collect();
+                let row = weights.sharing_from(&row);
+                let row: Vec<u32> = row.iter().map(|&share| share as u32).collect();
+                assert_eq!((&row[..first.len()], row.len()), (&first[..], n as usize));
+                assert_eq!(recover(number, n, t, &row, &mut vec![0; t as usize]).0, 0);
+            }
+        }
+    }
 
     #[test]
     fn agrees_with_recovery_of_the_whole_polynomial() {

@@ -1,9 +1,9 @@
--- The paper, "Fields and parties": calls of the small entries, and what they answer.
+-- The paper, "Fields and parties", and request 4, "Sum first, reduce after": calls of the small entries, and what they answer.
 -- The reference writes this table (reference model-cases).
 -- Assumes nothing.
 use mathlib.Core.List.{List, [], _∷_}
 use lib.IntN.{pos, negℤ}
-use Rattle.model.specs.CaseForms.{Entry, shared, recovered, encoded, decoded}
+use Rattle.model.specs.CaseForms.{Entry, shared, recovered, summed, encoded, decoded}
 
 unfoldable pub entryCases : List Entry
 entryCases =
@@ -158,4 +158,60 @@ entryCases =
     ∷ decoded 1 251 5 (pos 0)
     ∷ decoded 2 65521 5 (pos 0)
     ∷ decoded 3 2147483647 5 (pos 0)
+    -- sum 2 times 7 and 12 times 9
+    ∷ summed 0 3 1 (7 ∷ 9 ∷ 11 ∷ []) 0 (pos 122)
+    -- shares past t + 1 are not summed
+    ∷ summed 0 7 1 (7 ∷ 9 ∷ 11 ∷ 0 ∷ 2 ∷ 4 ∷ 6 ∷ []) 0 (pos 122)
+    -- all shares 0
+    ∷ summed 0 3 1 (0 ∷ 0 ∷ 0 ∷ []) 0 (pos 0)
+    -- 2p, so the secret is 0
+    ∷ summed 0 3 1 (7 ∷ 1 ∷ 8 ∷ []) 0 (pos 26)
+    -- all shares p - 1, in each field
+    ∷ summed 0 3 1 (12 ∷ 12 ∷ 12 ∷ []) 0 (pos 168)
+    ∷ summed 1 6 2 (250 ∷ 250 ∷ 250 ∷ 250 ∷ 250 ∷ 250 ∷ []) 0 (pos 63000)
+    ∷ summed 2 7 3 (65520 ∷ 65520 ∷ 65520 ∷ 65520 ∷ 65520 ∷ 65520 ∷ 65520 ∷ []) 0 (pos 8585937360)
+    ∷ summed 3 4 1 (2147483646 ∷ 2147483646 ∷ 2147483646 ∷ 2147483646 ∷ []) 0 (pos 4611686014132420608)
+    -- the largest sum of all
+    ∷ summed 3 7 3 (2147483646 ∷ 2147483646 ∷ 2147483646 ∷ 2147483646 ∷ 2147483646 ∷ 2147483646 ∷ 2147483646 ∷ []) 0
+    (pos 9223372026117357570)
+    -- the weight of each share, threshold 1
+    ∷ summed 3 3 1 (1 ∷ 0 ∷ 2147483646 ∷ []) 0 (pos 2)
+    ∷ summed 3 3 1 (0 ∷ 1 ∷ 2 ∷ []) 0 (pos 2147483646)
+    -- the weight of each share, threshold 2
+    ∷ summed 2 5 2 (1 ∷ 0 ∷ 0 ∷ 1 ∷ 3 ∷ []) 0 (pos 3)
+    ∷ summed 2 5 2 (0 ∷ 1 ∷ 0 ∷ 65518 ∷ 65513 ∷ []) 0 (pos 65518)
+    ∷ summed 2 5 2 (0 ∷ 0 ∷ 1 ∷ 3 ∷ 6 ∷ []) 0 (pos 1)
+    -- the weight of each share, threshold 3
+    ∷ summed 1 7 3 (1 ∷ 0 ∷ 0 ∷ 0 ∷ 250 ∷ 247 ∷ 241 ∷ []) 0 (pos 4)
+    ∷ summed 1 7 3 (0 ∷ 1 ∷ 0 ∷ 0 ∷ 4 ∷ 15 ∷ 36 ∷ []) 0 (pos 245)
+    ∷ summed 1 7 3 (0 ∷ 0 ∷ 1 ∷ 0 ∷ 245 ∷ 231 ∷ 206 ∷ []) 0 (pos 4)
+    ∷ summed 1 7 3 (0 ∷ 0 ∷ 0 ∷ 1 ∷ 4 ∷ 10 ∷ 20 ∷ []) 0 (pos 250)
+    -- 2: sum, field 4
+    ∷ summed 4 3 1 (7 ∷ 9 ∷ 11 ∷ []) 2 (pos 0)
+    -- 2 before 3
+    ∷ summed 4 8 1 (7 ∷ 7 ∷ 7 ∷ 7 ∷ 7 ∷ 7 ∷ 7 ∷ 7 ∷ []) 2 (pos 0)
+    -- 3: two parties
+    ∷ summed 0 2 1 (7 ∷ 9 ∷ []) 3 (pos 0)
+    -- 3: eight parties
+    ∷ summed 0 8 1 (7 ∷ 7 ∷ 7 ∷ 7 ∷ 7 ∷ 7 ∷ 7 ∷ 7 ∷ []) 3 (pos 0)
+    -- 3: threshold 0
+    ∷ summed 0 3 0 (7 ∷ 7 ∷ 7 ∷ []) 3 (pos 0)
+    -- 3: 2t + 1 is more than n
+    ∷ summed 0 4 2 (7 ∷ 7 ∷ 7 ∷ 7 ∷ []) 3 (pos 0)
+    -- 3 before 4
+    ∷ summed 0 8 1 (7 ∷ 7 ∷ 7 ∷ []) 3 (pos 0)
+    -- 4: a share is missing
+    ∷ summed 0 3 1 (7 ∷ 9 ∷ []) 4 (pos 0)
+    -- 4: a share more
+    ∷ summed 0 3 1 (7 ∷ 9 ∷ 11 ∷ 0 ∷ []) 4 (pos 0)
+    -- 4 before 5
+    ∷ summed 0 3 1 (7 ∷ 13 ∷ []) 4 (pos 0)
+    -- 5: the last share is p
+    ∷ summed 0 3 1 (2 ∷ 1 ∷ 13 ∷ []) 5 (pos 0)
+    -- 5 before 6
+    ∷ summed 0 4 1 (7 ∷ 9 ∷ 12 ∷ 13 ∷ []) 5 (pos 0)
+    -- 6: the last share
+    ∷ summed 0 3 1 (7 ∷ 9 ∷ 12 ∷ []) 6 (pos 0)
+    -- 6: one of the shares that are summed
+    ∷ summed 1 5 2 (1 ∷ 4 ∷ 8 ∷ 16 ∷ 25 ∷ []) 6 (pos 0)
     ∷ []

@@ -57,16 +57,20 @@ fn good_row(generator: &mut Generator, number: u32, field: &Field, (n, t): (u32,
     recover_case(number, (n, t), &row, t)
 }
 
-/// A sharing with one share moved by a random amount that is not 0 modulo p.
 fn damaged_row(generator: &mut Generator, number: u32, field: &Field, (n, t): (u32, u32)) -> Case {
     let mut row = random_sharing(generator, field, (n, t));
-    let place = generator.below(n) as usize;
-    let amount = 1 + u64::from(generator.below(field.modulus - 1));
-    row[place] = field.add(u64::from(row[place]), amount) as u32;
+    damage(generator, field, &mut row);
     recover_case(number, (n, t), &row, t)
 }
 
-fn random_sharing(generator: &mut Generator, field: &Field, (n, t): (u32, u32)) -> Vec<u32> {
+/// Moves one share by a random amount that is not 0 modulo p.
+pub fn damage(generator: &mut Generator, field: &Field, row: &mut [u32]) {
+    let place = generator.below(row.len() as u32) as usize;
+    let amount = 1 + u64::from(generator.below(field.modulus - 1));
+    row[place] = field.add(u64::from(row[place]), amount) as u32;
+}
+
+pub fn random_sharing(generator: &mut Generator, field: &Field, (n, t): (u32, u32)) -> Vec<u32> {
     let secret = generator.below(field.modulus);
     let coefficients = generator.list(t as usize, field.modulus);
     row_of(field, secret, &coefficients, n)
@@ -130,7 +134,7 @@ fn any_decode(generator: &mut Generator, number: u32, field: &Field) -> Case {
 }
 
 /// The value itself most of the time, so that later grounds of refusal are reached.
-fn near(generator: &mut Generator, value: u32) -> u32 {
+pub fn near(generator: &mut Generator, value: u32) -> u32 {
     match generator.below(16) {
         0 => value.saturating_sub(1),
         1 => value.saturating_add(1),
@@ -140,7 +144,7 @@ fn near(generator: &mut Generator, value: u32) -> u32 {
 }
 
 /// Mostly a field value, with p, p + 1 and the largest u32 among them.
-fn value_near_limit(generator: &mut Generator, field: &Field) -> u32 {
+pub fn value_near_limit(generator: &mut Generator, field: &Field) -> u32 {
     let p = field.modulus;
     match generator.below(24) {
         0 => generator.pick(&[p, p + 1, u32::MAX]),

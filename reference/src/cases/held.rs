@@ -1,6 +1,8 @@
 //! Calls of the entries that hold the model's definitions: crate model computes each. Every number alone, against the next one in the
 //! order, and at its last good value.
 
+pub mod sums;
+
 use crate::case::{Case, RecoverCase, ShareCase};
 
 /// What every number of a lent list is before the call.
@@ -10,6 +12,13 @@ const FILLING: u32 = 99;
 pub type Held = (&'static str, Case);
 
 pub fn all() -> Vec<Held> {
+    let mut all = of_the_paper();
+    all.extend(sums::all());
+    all
+}
+
+/// Without the sums, which a request asked for.
+pub fn of_the_paper() -> Vec<Held> {
     let mut all = shares();
     all.extend(recoveries());
     all.extend(codings());
