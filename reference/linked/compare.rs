@@ -2,8 +2,9 @@
 //! form, then drawn ones.
 //!
 //! `reference/link` builds it. Of a run are compared number, place and counts, marks, register
-//! cells, and both buffers to their last number; of a small entry (share, recover, encode, decode)
-//! number, value and the lent list; of the import of a list of calls number, how many calls were
+//! cells, and both buffers to their last number; of a small entry (share, recover, encode, decode,
+//! sum) number, value and the lent list, and of a sum also the remainder by p with the secret that the
+//! library recovers from the same row; of the import of a list of calls number, how many calls were
 //! written, and the buffer to its last number; of the column form, there and back, number and the
 //! output to its last byte. Lists of numbers are filled before with numbers that are never written, so
 //! that a number too many, too few or left over is seen. Every byte can be written to an output of the
@@ -21,9 +22,10 @@ use reference::calls;
 use reference::calls::drawn::list_for;
 use reference::case::Case;
 use reference::cases::generator::Generator;
-use reference::cases::{self, case_for};
+use reference::cases::{self, case_for, sum_for};
 use reference::columns;
 use reference::columns::drawn::turn_for;
+use reference::compare::summed::{recovery, recovery_difference};
 use reference::compare::{Entered, Imported, Lengths, Ran, Turned};
 use reference::run_case;
 use reference::sheets::{self, sheet_for};
@@ -32,14 +34,15 @@ const USAGE: &str = "\
 usage: compare SEED COUNT [FIRST]
 
 Compares the proved library with the reference: all that is stored, COUNT sheets drawn from SEED
-and the indices FIRST, FIRST + 1, ... (FIRST is 0 if left out), and for each of them 4 calls of
-small entries (share, recover, encode, decode), the import of a list of calls, and an input turned to
-the column form or to the sheet. The last line tells how many were compared and how many differ.
-Exits with 1 if any does, with 2 if the arguments are wrong.
+and the indices FIRST, FIRST + 1, ... (FIRST is 0 if left out), and for each of them 5 calls of
+small entries (4 of share, recover, encode or decode, and one of sum), the import of a list of calls,
+and an input turned to the column form or to the sheet. A sum's remainder is compared also with the
+secret that the library recovers from the same row. The last line tells how many were compared and
+how many differ. Exits with 1 if any does, with 2 if the arguments are wrong.
 
 Build it with bash reference/link, after rt staticlib jundrethol.";
 
-/// How many calls of small entries are drawn for a sheet.
+/// How many calls of small entries are drawn for a sheet besides one of sum.
 const ENTRIES: u64 = 4;
 
 /// How many differences are listed.
@@ -58,6 +61,7 @@ type Numbers = BTreeMap<u32, u64>;
 struct Tally {
     runs: Numbers,
     entries: u64,
+    sums: Numbers,
     imports: Numbers,
     turns: Numbers,
     differing: usize,
@@ -85,7 +89,13 @@ impl Tally {
         let reference = Entered::by_reference(case);
         let library = entries::enter(case);
         self.entries += 1;
-        if let Some(difference) = reference.difference(&library) {
+        let mut difference = reference.difference(&library);
+        if let Case::Sum(call) = case {
+            *self.sums.entry(reference.number).or_default() += 1;
+            let recovered = entries::enter(&recovery(call));
+            difference = difference.or_else(|| recovery_difference(call, &library, &recovered));
+        }
+        if let Some(difference) = difference {
             self.differs(format!("{name}: {difference}\n  {case:?}"));
         }
     }
@@ -153,18 +163,21 @@ impl Tally {
             let index = index.wrapping_mul(ENTRIES).wrapping_add(entry);
             self.entry(&format!("entry {seed} {index}"), &case_for(seed, index));
         }
+        self.entry(&format!("sum {seed} {index}"), &sum_for(seed, index));
         self.import(&format!("list {seed} {index}"), &list_for(seed, index));
         self.turn(&format!("input {seed} {index}"), &turn_for(seed, index));
     }
 
     fn tell(&self) {
         println!("runs by number: {}", told(&self.runs));
+        println!("sums by number: {}", told(&self.sums));
         println!("lists by number: {}", told(&self.imports));
         println!("turned by number: {}", told(&self.turns));
-        let [runs, imports, turns] = [&self.runs, &self.imports, &self.turns].map(total);
+        let numbers = [&self.runs, &self.sums, &self.imports, &self.turns];
+        let [runs, sums, imports, turns] = numbers.map(total);
         println!(
-            "{runs} runs of sheets, {} calls of small entries, {imports} imports of lists and {turns} \
-             inputs turned compared, {} differ",
+            "{runs} runs of sheets, {} calls of small entries, {sums} of them sums, {imports} imports \
+             of lists and {turns} inputs turned compared, {} differ",
             self.entries, self.differing
         );
     }

@@ -1,7 +1,7 @@
 //! Calls of the proved library's small entries, told like those of the reference. What an entry is
 //! to write a number to holds another one before.
 
-use reference::case::{Case, RecoverCase, ShareCase};
+use reference::case::{Case, RecoverCase, ShareCase, SumCase};
 use reference::compare::Entered;
 
 use crate::library::c;
@@ -18,8 +18,9 @@ pub fn enter(case: &Case) -> Entered {
         Case::Decode { field, v } => {
             let mut value = i64::MAX;
             let number = unsafe { c::jundrethol_decode(*field, *v, &mut value) };
-            without_list(number, value)
+            without_list(number, value.into())
         }
+        Case::Sum(call) => sum(call),
     }
 }
 
@@ -66,7 +67,22 @@ fn recover(call: &RecoverCase) -> Entered {
     }
 }
 
-fn without_list(number: u32, value: i64) -> Entered {
+fn sum(call: &SumCase) -> Entered {
+    let mut sum = u64::MAX;
+    let number = unsafe {
+        c::jundrethol_sum(
+            call.field,
+            call.parties,
+            call.threshold,
+            &mut sum,
+            call.row.as_ptr(),
+            call.row.len(),
+        )
+    };
+    without_list(number, sum.into())
+}
+
+fn without_list(number: u32, value: i128) -> Entered {
     Entered {
         number,
         value,

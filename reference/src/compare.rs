@@ -1,5 +1,6 @@
 //! What a call leaves in everything that its caller lends, and where two calls differ.
 
+pub mod summed;
 mod turned;
 
 pub use turned::Turned;
