@@ -57,6 +57,14 @@ static void recover(void)
     answer = jundrethol_recover(3, 7, 3, &value, shares, 7, coefficients, 3);
 }
 
+static void sum(void)
+{
+    static const uint32_t last[7] = {2147483646, 2147483646, 2147483646, 2147483646, 2147483646, 2147483646, 2147483646};
+    static uint64_t sum;
+    top = (uintptr_t)__builtin_frame_address(0);
+    answer = jundrethol_sum(3, 7, 3, &sum, last, 7);
+}
+
 static void encode(void)
 {
     top = (uintptr_t)__builtin_frame_address(0);
@@ -127,6 +135,7 @@ int main(int count, char **names)
     }
     good &= fits("share", share, JUNDRETHOL_DONE);
     good &= fits("recover", recover, JUNDRETHOL_DONE);
+    good &= fits("sum", sum, JUNDRETHOL_DONE);
     good &= fits("encode", encode, JUNDRETHOL_DONE);
     good &= fits("decode", decode, JUNDRETHOL_DONE);
     good &= fits("import", import, JUNDRETHOL_BAD_TIME);

@@ -35,7 +35,7 @@ extern "C" {
  * may add functions, refusals, and counts after the last, and may accept what was refused with 1 to 20, but for 15: an output that is shorter
  * than the input stays refused. Where the first number grows, the second starts at 0. */
 #define JUNDRETHOL_VERSION_MAJOR 2
-#define JUNDRETHOL_VERSION_MINOR 1
+#define JUNDRETHOL_VERSION_MINOR 2
 
 /* What every function answers: 0, or the first of the others that applies. */
 #define JUNDRETHOL_DONE 0
@@ -126,6 +126,14 @@ uint32_t jundrethol_recover(
     uint32_t field, uint32_t n, uint32_t t, uint32_t *secret,
     const uint32_t *row, size_t row_length,
     uint32_t *coefficients, size_t coefficients_length);
+
+/* The sum before reducing: each of shares 1 to t + 1 of a row times its weight below p, added and not reduced. Its remainder by p is the secret
+ * that jundrethol_recover gives on the same row. The weights, party 1's first, are 2 and p - 1 for t = 1; 3, p - 3 and 1 for t = 2; 4, p - 6, 4
+ * and p - 1 for t = 3. So at most four products are added, and the sum is at most 9223372026117357570, which fits 64 bits. The row's length is
+ * exactly n. Answers 0, or a refusal 2, 3, 4, 5 or 6, which sets the sum to 0. */
+uint32_t jundrethol_sum(
+    uint32_t field, uint32_t n, uint32_t t, uint64_t *sum,
+    const uint32_t *row, size_t row_length);
 
 /* A k-bit signed number, from -2^(k-1) to 2^(k-1) - 1, as a value of the field. Answers 0, or a refusal 2 or 11, which sets the
  * value to 0. */

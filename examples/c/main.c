@@ -1,5 +1,5 @@
-/* The paper's MUL sheet run through the C ABI, a secret shared, recovered, encoded and decoded, calls taken from an exchange's list, and the sheet
- * cut into the parties' parts and put together again. Exits with 1 if an answer is wrong. */
+/* The paper's MUL sheet run through the C ABI, a secret shared, recovered and summed, numbers encoded and decoded, calls taken from an exchange's
+ * list, and the sheet cut into the parties' parts and put together again. Exits with 1 if an answer is wrong. */
 #include <inttypes.h>
 #include <stdio.h>
 #include <stdlib.h>
@@ -7,8 +7,8 @@
 
 #include "jundrethol.h"
 
-#if JUNDRETHOL_VERSION_MAJOR != 2 || JUNDRETHOL_VERSION_MINOR < 1
-#error "written for version 2 of the library, from 2.1 on"
+#if JUNDRETHOL_VERSION_MAJOR != 2 || JUNDRETHOL_VERSION_MINOR < 2
+#error "written for version 2 of the library, from 2.2 on"
 #endif
 
 #define COUNT(list) (sizeof(list) / sizeof((list)[0]))
@@ -81,13 +81,18 @@ static void share_and_recover(void)
 {
     const uint32_t coefficients[1] = {2};
     uint32_t shares[3] = {0}, found[1] = {0}, secret = 0;
+    uint64_t sum = 0;
     expect(jundrethol_share(0, 3, 1, 5, coefficients, 1, shares, 3) == JUNDRETHOL_DONE, "5 is shared");
     printf("shares %" PRIu32 " %" PRIu32 " %" PRIu32 "\n", shares[0], shares[1], shares[2]);
     expect(jundrethol_recover(0, 3, 1, &secret, shares, 3, found, 1) == JUNDRETHOL_DONE, "the row is a sharing");
     printf("secret %" PRIu32 " coefficient %" PRIu32 "\n", secret, found[0]);
     expect(secret == 5 && found[0] == 2, "recovery undoes sharing");
+    expect(jundrethol_sum(0, 3, 1, &sum, shares, 3) == JUNDRETHOL_DONE, "a row that is recovered has a sum");
+    printf("sum %" PRIu64 " remainder %" PRIu64 "\n", sum, sum % 13);
+    expect(sum == 2 * 7 + 12 * 9 && sum % 13 == secret, "the sum's remainder is the secret");
     shares[2] = 12;
     expect(jundrethol_recover(0, 3, 1, &secret, shares, 3, found, 1) == JUNDRETHOL_NO_SHARING && secret == 0, "7 9 12 is no sharing");
+    expect(jundrethol_sum(0, 3, 1, &sum, shares, 3) == JUNDRETHOL_NO_SHARING && sum == 0, "and has no sum");
 }
 
 static void encode_and_decode(void)

@@ -38,6 +38,8 @@ extern "C" {
         coefficients_length: usize,
     ) -> u32;
 
+    pub fn jundrethol_sum(field: u32, n: u32, t: u32, sum: *mut u64, row: *const u32, row_length: usize) -> u32;
+
     pub fn jundrethol_encode(field: u32, k: u32, number: i64, value: *mut u32) -> u32;
 
     pub fn jundrethol_decode(field: u32, value: u32, number: *mut i64) -> u32;

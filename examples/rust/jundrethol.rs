@@ -72,6 +72,12 @@ pub fn recover(field: u32, n: u32, t: u32, row: &[u32], coefficients: &mut [u32]
     answer(number, secret)
 }
 
+/// The sum before it is reduced: its remainder by p is the secret.
+pub fn sum(field: u32, n: u32, t: u32, row: &[u32]) -> Result<u64, u32> {
+    let mut sum = 0;
+    answer(unsafe { c::jundrethol_sum(field, n, t, &mut sum, row.as_ptr(), row.len()) }, sum)
+}
+
 pub fn encode(field: u32, k: u32, number: i64) -> Result<u32, u32> {
     let mut value = 0;
     answer(unsafe { c::jundrethol_encode(field, k, number, &mut value) }, value)

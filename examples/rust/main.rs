@@ -1,5 +1,5 @@
-//! The paper's MUL sheet run through the C ABI, a secret shared, recovered, encoded and decoded, calls taken from an exchange's list, and the sheet
-//! cut into the parties' parts and put together again. Exits with 1 if an answer is wrong.
+//! The paper's MUL sheet run through the C ABI, a secret shared, recovered and summed, numbers encoded and decoded, calls taken from an exchange's
+//! list, and the sheet cut into the parties' parts and put together again. Exits with 1 if an answer is wrong.
 mod jundrethol;
 
 use std::process::exit;
@@ -52,7 +52,11 @@ fn share_and_recover() {
     let secret = jundrethol::recover(0, 3, 1, &shares, &mut found).expect("the row is a sharing");
     println!("secret {secret} coefficient {}", found[0]);
     expect(secret == 5 && found == [2], "recovery undoes sharing");
+    let sum = jundrethol::sum(0, 3, 1, &shares).expect("a row that is recovered has a sum");
+    println!("sum {sum} remainder {}", sum % 13);
+    expect(sum == 2 * 7 + 12 * 9 && sum % 13 == u64::from(secret), "the sum's remainder is the secret");
     expect(jundrethol::recover(0, 3, 1, &[7, 9, 12], &mut found) == Err(6), "7 9 12 is no sharing");
+    expect(jundrethol::sum(0, 3, 1, &[7, 9, 12]) == Err(6), "and has no sum");
 }
 
 fn encode_and_decode() {
