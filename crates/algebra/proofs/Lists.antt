@@ -6,19 +6,27 @@ use mathlib.Core.Logic.{_↔_}
 use mathlib.Core.List.{List, [], _∷_, _++_, append-assoc, append-nil, List·Memᴰ as In, List·Memᴰ·head as here, List·Memᴰ·tail as there}
 use Prim.Native.Nat.{ℕ, zero, suc, _+_, _-_, _*_, _≤_, _<_, zero-le}
 use native.Mathlib.Decide.{decLt}
-use native.Mathlib.Nat.{zero-add, suc-add}
+use native.Mathlib.Nat.{zero-add, suc-add, add-mul, add-le-add, mul-le-mul-left}
 use native.Mathlib.Numerals.{add-one}
 use native.Mathlib.Omega.{arith}
 use borrow.Rule.Slice.PartMut.{putMid, midOf}
 use borrow.Author.Tests.{lt-ltb, le-ltb}
 use lib.Dec.{T, ltb, ltb→lt, lt→ltb}
-use lib.ListN.{length, getD, take, drop, set, length-append, length-drop, drop-of-length-le, take-append-drop}
+use lib.ListN.{length, getD, take, drop, set, length-append, length-drop, drop-of-length-le, take-append-drop, List·getD-eq-default}
 use lib.Seq.{drop-cons, take-suc, length-take-le, set-at, take-at, drop-at, take-all, drop-drop, drop-nil}
 use Rattle.algebra.specs.Lists.{Below, allBelow, from, total, onto, ontoAt}
 use Rattle.algebra.proofs.Tests.{and-left, and-right, and-both}
 
 pub below-nil : (p : ℕ) → Below p []
 below-nil p = record { at = λ i h. absurd (omega arith) }
+
+-- past its end a list is 0
+pub below-any : {p : ℕ} {xs : List ℕ} → 0 < p → Below p xs → (i : ℕ) → getD xs i 0 < p
+below-any {p} {xs} h B i = go (decLt i (length xs))
+  where
+    go : Dec (i < length xs) → getD xs i 0 < p
+    go (yes l) = B .at i l
+    go (no l) = rw (List·getD-eq-default xs 0 {n = i} (omega arith)) h
 
 pub below-head : {p x : ℕ} {xs : List ℕ} → Below p (x ∷ xs) → x < p
 below-head b = b .at 0 (omega arith)
@@ -99,6 +107,19 @@ pub total-le : (b : ℕ) (g : ℕ → ℕ) (xs : List ℕ) → ((x : ℕ) → In
 unfolding total
 total-le b g [] k = zero-le
 total-le b g (x ∷ xs) k = omega (arith, k x (here refl), total-le b g xs (λ z m. k z (there m)))
+
+-- values of at most b, each times its weight
+pub total-scaled : (b : ℕ) (w g : ℕ → ℕ) (xs : List ℕ) → ((x : ℕ) → In x xs → g x ≤ b) → total xs (λ x. w x * g x) ≤ total xs w * b
+unfolding total
+total-scaled b w g [] k = omega arith
+total-scaled b w g (x ∷ xs) k =
+    rw add-mul (add-le-add (mul-le-mul-left (w x) (k x (here refl))) (total-scaled b w g xs (λ z m. k z (there m))))
+
+-- the first m of m + d terms
+pub total-front : (k m d : ℕ) (g : ℕ → ℕ) → total (from k m) g ≤ total (from k (m + d)) g
+unfolding from total
+total-front k zero d g = zero-le
+total-front k (suc m) d g = rw suc-add (omega (arith, total-front (suc k) m d g))
 
 pub length-onto : (vs xs : List ℕ) → length vs ≤ length xs → length (onto vs xs) ≡ length xs
 unfolding onto

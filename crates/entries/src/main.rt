@@ -12,6 +12,7 @@ use report::number::list;
 use report::number::number;
 use report::number::put;
 use report::number::signed;
+use report::number::wide;
 
 fn main() {
     let mut input = [0u8; 131072];
@@ -38,7 +39,8 @@ fn run_case(s: &[u8])
         0 => share(s),
         1 => recover(s),
         2 => encode(s),
-        _ => decode(s),
+        3 => decode(s),
+        _ => sum(s),
     }
 }
 
@@ -167,5 +169,25 @@ fn decode(s: &[u8])
     let answer = field::decode(word(s, 1), word(s, 4));
     number(b" : number ", answer.number);
     signed(b" signed ", answer.value);
+    line_end();
+}
+
+fn sum(s: &[u8])
+    requires { ⌜ length (now s) ≡ 112 ⌝ }
+{
+    let given = words(s, 9);
+    let many = length_at(s, 8);
+    sum_list(s, &given[..many]);
+}
+
+fn sum_list(s: &[u8], row: &[u32])
+    requires { ⌜ length (now s) ≡ 112 ⌝ }
+{
+    put(b"sum");
+    arguments(s);
+    list(b" row", row);
+    let answer = sharing::sum(word(s, 1), word(s, 2), word(s, 3), row);
+    number(b" : number ", answer.number);
+    wide(b" sum ", answer.sum);
     line_end();
 }

@@ -3,7 +3,7 @@
 mod lent;
 
 ghost use mathlib.Core.Path.{_≡_};
-ghost use Rattle.model.specs.Entries.{shareNumber, shareLeft, recoverNumber, recoverValue, recoverLeft, encodeNumber, encodeValue, decodeNumber, decodeValue};
+ghost use Rattle.model.specs.Entries.{shareNumber, shareLeft, recoverNumber, recoverValue, recoverLeft, sumNumber, sumValue, encodeNumber, encodeValue, decodeNumber, decodeValue};
 ghost use Rattle.model.specs.Run as Run;
 ghost use Rattle.model.specs.Calls as Calls;
 ghost use Rattle.model.specs.Columns.{columnForm, sheetForm, turnNumber, outputLeft};
@@ -84,6 +84,16 @@ pub extern "C" fn jundrethol_recover(
 {
     let answer = sharing::recover(field, n, t, row, coefficients);
     *secret = answer.value;
+    answer.number
+}
+
+// The sum before reducing. Refuses 2, 3, 4, 5, 6.
+#[no_mangle]
+pub extern "C" fn jundrethol_sum(field: u32, n: u32, t: u32, sum: &mut u64, row: &[u32]) -> u32
+    ensures { λ r. ⌜ (r ≡ sumNumber field n t (now (row .entry))) × (now (sum .exit) ≡ sumValue field n t (now (row .entry))) ⌝ }
+{
+    let answer = sharing::sum(field, n, t, row);
+    *sum = answer.sum;
     answer.number
 }
 

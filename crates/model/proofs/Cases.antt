@@ -1,14 +1,14 @@
--- The tables of cases compute.
+-- The tables of cases compute. Each is computed only where all laws and the tables before it hold: what a law refuses does not wait for a table.
 -- Assumes nothing.
 use mathlib.Core.Path.{refl}
 use Rattle.algebra.specs.Ring.{add, sub, mul}
-use Rattle.algebra.specs.Lists.{allBelow, from, onto, sameList}
+use Rattle.algebra.specs.Lists.{allBelow, from, total, onto, sameList}
 use Rattle.algebra.specs.Rows.{tab, row}
 use Rattle.model.specs.Fields.{modulus, bits, largestK, inUse, inverse, inversePowerOf2, parties, fieldTests, settingTests}
 use Rattle.model.specs.Refusing.{firstFailed}
 use Rattle.model.specs.Coding.{inRange, code, readBack}
-use Rattle.model.specs.Sharing.{eval, share, newton, reciprocal, slope, interpolate, recover, secret, isSharing}
-use Rattle.model.specs.Entries.{shareTests, recoverTests, encodeTests, decodeTests, shareLeft, recoverValue, recoverLeft, encodeValue, decodeValue}
+use Rattle.model.specs.Sharing.{eval, share, newton, reciprocal, slope, interpolate, recover, secret, isSharing, ratio, weight, weighted, secretSum}
+use Rattle.model.specs.Entries.{shareTests, recoverTests, sumTests, encodeTests, decodeTests, shareLeft, recoverValue, recoverLeft, sumValue, encodeValue, decodeValue}
 use Rattle.model.specs.Bytes.{number, rowAt}
 use Rattle.model.specs.Trees.{spelled, comparisonFrom, comparison, remainder, floor, sign, over as overStep, blocks}
 use Rattle.model.specs.Steps.{plus, minus, times, constant, value, byRows}
@@ -28,34 +28,38 @@ use Rattle.model.specs.EntryCases.{entryCases}
 use Rattle.model.specs.CallCases.{callCases}
 use Rattle.model.specs.ColumnCases.{columnCases}
 use Rattle.model.specs.Cases.{checks, partsSeen, Cases}
+use Rattle.model.proofs.Laws.{laws}
 
-pub sheets-hold : Hold sheetCases
-unfolding byRows add sub mul allBelow from onto tab row modulus bits largestK inUse fieldTests settingTests inverse parties eval share newton reciprocal slope interpolate recover secret sameList isSharing number rowAt byteSays allPass numberAt readingAt scriptFrom scriptOf costBy headerOf headerSize maskBits largestIn limits impliedLength scriptIn rowsAt masksFrom triplesFrom inputIn dealIn all maskRows tripleRows spell secrets goodMask goodTriple firstFailed headerTests limitTests lengthTests rowTests sheetTests bytesOf shareBytes allSet marked check pay command throughLines runLines nothingSpent start written outcome runScript stopOf run registersSeen seen sheetCases
-sheets-hold = refl
-
-pub scripts-hold : Hold scriptCases
-unfolding byRows add sub mul allBelow from onto tab row modulus bits largestK inUse fieldTests settingTests inverse parties eval share newton reciprocal slope interpolate recover secret sameList isSharing number rowAt byteSays allPass numberAt readingAt scriptFrom scriptOf costBy headerOf headerSize maskBits largestIn limits impliedLength scriptIn rowsAt masksFrom triplesFrom inputIn dealIn all maskRows tripleRows spell secrets goodMask goodTriple firstFailed headerTests limitTests lengthTests rowTests sheetTests bytesOf shareBytes allSet marked check pay command throughLines runLines nothingSpent start written outcome runScript stopOf run registersSeen seen scriptCases
-scripts-hold = refl
-
-pub runs-hold : Hold runCases
-unfolding add sub mul allBelow from onto tab row modulus bits largestK inUse fieldTests settingTests inverse inversePowerOf2 parties eval share newton reciprocal slope interpolate recover secret sameList isSharing number rowAt plus minus times constant value byRows comparisonFrom comparison spelled remainder floor sign overStep blocks byteSays allPass numberAt readingAt scriptFrom scriptOf costBy headerOf headerSize maskBits largestIn limits impliedLength scriptIn rowsAt masksFrom triplesFrom inputIn dealIn all maskRows tripleRows spell secrets goodMask goodTriple firstFailed headerTests limitTests lengthTests rowTests sheetTests bytesOf shareBytes allSet marked check pay registersFrom command throughLines runLines nothingSpent start written outcome runScript stopOf run registersSeen seen runCases
-runs-hold = refl
-
-pub masked-hold : Hold maskCases
-unfolding add sub mul allBelow from onto tab row modulus bits largestK inUse fieldTests settingTests inverse inversePowerOf2 parties eval share newton reciprocal slope interpolate recover secret sameList isSharing number rowAt plus minus times constant value byRows comparisonFrom comparison spelled remainder floor sign overStep blocks byteSays allPass numberAt readingAt scriptFrom scriptOf costBy headerOf headerSize maskBits largestIn limits impliedLength scriptIn rowsAt masksFrom triplesFrom inputIn dealIn all maskRows tripleRows spell secrets goodMask goodTriple firstFailed headerTests limitTests lengthTests rowTests sheetTests bytesOf shareBytes allSet marked check pay registersFrom command throughLines runLines nothingSpent start written outcome runScript stopOf run registersSeen seen maskCases
-masked-hold = refl
+after : {A B : Type 0} → A → B → B
+after a b = b
 
 pub entries-hold : Hold entryCases
-unfolding add sub mul allBelow from tab row modulus largestK inUse fieldTests settingTests inverse parties inRange code readBack eval share newton reciprocal slope interpolate recover secret sameList isSharing firstFailed shareTests recoverTests encodeTests decodeTests shareLeft recoverValue recoverLeft encodeValue decodeValue entryCases
-entries-hold = refl
+unfolding add sub mul allBelow from tab row modulus largestK inUse fieldTests settingTests inverse parties inRange code readBack eval share newton reciprocal slope interpolate recover secret sameList isSharing total ratio weight weighted secretSum firstFailed shareTests recoverTests sumTests encodeTests decodeTests shareLeft recoverValue recoverLeft sumValue encodeValue decodeValue entryCases
+entries-hold = after laws refl
 
 pub calls-hold : Hold callCases
 unfolding onto firstFailed isTEXTDATA alone plain quoted field isEnd fields readLine isDigit allDigits decimalFrom time lasting call fourFields lineAt lineNumber taken imported callCases
-calls-hold = refl
+calls-hold = after entries-hold refl
 
 pub columns-hold : Hold columnCases
 unfolding from onto number modulus bits inUse fieldTests settingTests parties headerOf headerSize maskBits limits impliedLength firstFailed headerTests limitTests lengthTests sharesFrom regrouped transposed columnForm sheetForm shapeTests outputTests turnTests outputLeft columnCases
-columns-hold = refl
+columns-hold = after calls-hold refl
+
+pub scripts-hold : Hold scriptCases
+unfolding byRows add sub mul allBelow from onto tab row modulus bits largestK inUse fieldTests settingTests inverse parties eval share newton reciprocal slope interpolate recover secret sameList isSharing number rowAt byteSays allPass numberAt readingAt scriptFrom scriptOf costBy headerOf headerSize maskBits largestIn limits impliedLength scriptIn rowsAt masksFrom triplesFrom inputIn dealIn all maskRows tripleRows spell secrets goodMask goodTriple firstFailed headerTests limitTests lengthTests rowTests sheetTests bytesOf shareBytes allSet marked check pay command throughLines runLines nothingSpent start written outcome runScript stopOf run registersSeen seen scriptCases
+scripts-hold = after columns-hold refl
+
+pub sheets-hold : Hold sheetCases
+unfolding byRows add sub mul allBelow from onto tab row modulus bits largestK inUse fieldTests settingTests inverse parties eval share newton reciprocal slope interpolate recover secret sameList isSharing number rowAt byteSays allPass numberAt readingAt scriptFrom scriptOf costBy headerOf headerSize maskBits largestIn limits impliedLength scriptIn rowsAt masksFrom triplesFrom inputIn dealIn all maskRows tripleRows spell secrets goodMask goodTriple firstFailed headerTests limitTests lengthTests rowTests sheetTests bytesOf shareBytes allSet marked check pay command throughLines runLines nothingSpent start written outcome runScript stopOf run registersSeen seen sheetCases
+sheets-hold = after scripts-hold refl
+
+pub runs-hold : Hold runCases
+unfolding add sub mul allBelow from onto tab row modulus bits largestK inUse fieldTests settingTests inverse inversePowerOf2 parties eval share newton reciprocal slope interpolate recover secret sameList isSharing number rowAt plus minus times constant value byRows comparisonFrom comparison spelled remainder floor sign overStep blocks byteSays allPass numberAt readingAt scriptFrom scriptOf costBy headerOf headerSize maskBits largestIn limits impliedLength scriptIn rowsAt masksFrom triplesFrom inputIn dealIn all maskRows tripleRows spell secrets goodMask goodTriple firstFailed headerTests limitTests lengthTests rowTests sheetTests bytesOf shareBytes allSet marked check pay registersFrom command throughLines runLines nothingSpent start written outcome runScript stopOf run registersSeen seen runCases
+runs-hold = after sheets-hold refl
+
+pub masked-hold : Hold maskCases
+unfolding add sub mul allBelow from onto tab row modulus bits largestK inUse fieldTests settingTests inverse inversePowerOf2 parties eval share newton reciprocal slope interpolate recover secret sameList isSharing number rowAt plus minus times constant value byRows comparisonFrom comparison spelled remainder floor sign overStep blocks byteSays allPass numberAt readingAt scriptFrom scriptOf costBy headerOf headerSize maskBits largestIn limits impliedLength scriptIn rowsAt masksFrom triplesFrom inputIn dealIn all maskRows tripleRows spell secrets goodMask goodTriple firstFailed headerTests limitTests lengthTests rowTests sheetTests bytesOf shareBytes allSet marked check pay registersFrom command throughLines runLines nothingSpent start written outcome runScript stopOf run registersSeen seen maskCases
+masked-hold = after runs-hold refl
 
 pub cases : Cases
 unfolding tab bits number headerOf headerSize maskBits bytesOf shareBytes sharesFrom regrouped transposed columnForm partOf sharesIn partsSeen from onto firstFailed allSet check checks isTEXTDATA alone plain quoted field isEnd fields readLine isDigit allDigits decimalFrom time lasting call fourFields lineAt lineNumber taken imported

@@ -9,6 +9,7 @@ pub mod Trying
 pub mod Entries
 pub mod CodeEntries
 pub mod Shamir
+pub mod SumFirst
 pub mod Bits
 pub mod Comparing
 pub mod Unmasking
@@ -64,4 +65,5 @@ pub mod CallLists
 pub mod Transposing
 pub mod ColumnParts
 pub mod ColumnForms
+pub mod Laws
 pub mod Cases

@@ -1,13 +1,11 @@
 -- Shamir's sharing keeps its promises, for every field of the table and all parties and thresholds that the paper permits.
 -- Assumes nothing.
 use Prim.Native.Nat.{ℕ}
-use native.Mathlib.Omega.{arith}
 use Rattle.model.specs.Fields.{Modulus, Parties}
 use Rattle.model.specs.Shamir.{Shamir, EverySharing}
 use Rattle.model.proofs.Fields.{fields}
 use Rattle.model.proofs.Polynomials.{positive}
 use Rattle.model.proofs.Sharings as Sharings
-use Rattle.model.proofs.Weights.{secret-weighted}
 
 pub shamir-at : {p n t : ℕ} → Modulus p → Parties n t → Shamir p n t
 shamir-at {p} {n} {t} M P =
@@ -18,7 +16,6 @@ shamir-at {p} {n} {t} M P =
       shares-below = λ x. Sharings.shares-below M P;
       secret-is = λ x. Sharings.secret-sharing M P;
       secret-below = Sharings.secret-lt M P;
-      secret-weighted = secret-weighted M t (omega arith);
       sums = Sharings.closed M P (Sharings.add-linear (positive M));
       differences = Sharings.closed M P (Sharings.sub-linear (positive M));
       multiples = λ c. Sharings.closed M P (Sharings.mul-linear (positive M) c);

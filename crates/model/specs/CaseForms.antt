@@ -9,7 +9,7 @@ use Prim.Native.Nat.{ℕ, suc}
 use lib.IntN.{ℤ, pos}
 use lib.ListN.{length, replicate}
 use Rattle.algebra.specs.Lists.{from, sameList}
-use Rattle.model.specs.Entries.{shareNumber, shareLeft, recoverNumber, recoverValue, recoverLeft, encodeNumber, encodeValue, decodeNumber, decodeValue}
+use Rattle.model.specs.Entries.{shareNumber, shareLeft, recoverNumber, recoverValue, recoverLeft, sumNumber, sumValue, encodeNumber, encodeValue, decodeNumber, decodeValue}
 use Rattle.model.specs.Steps.{Row}
 use Rattle.model.specs.Sheet.{shareBytes}
 use Rattle.model.specs.Counts.{listed}
@@ -61,8 +61,8 @@ stopped header script shares number place =
 abbrev pub scripted : ℕ → List ℕ → ℕ → ℕ → Case
 scripted f script number place = stopped (f ∷ 3 ∷ 1 ∷ 0 ∷ 0 ∷ 0 ∷ 0 ∷ 0 ∷ 0 ∷ length script ∷ 0 ∷ []) script [] number place
 
--- what an entry answers: the number; the value, which share and turning over or back do not have; and the lent list that it leaves, which encode and
--- decode do not have
+-- what an entry answers: the number; the value, which share and turning over or back do not have; and the lent list that it leaves, which sum,
+-- encode and decode do not have
 pub record Answer : Type 0 where
   pub number : ℕ
   pub value : Option ℤ
@@ -88,6 +88,11 @@ recovered f n t xs lent number value left =
       computed = answer (recoverNumber f n t xs out) (some (pos (recoverValue f n t xs out))) (recoverLeft f n t xs out);
       told = answer number (some value) left;
     }
+
+-- sum with field, n, t and shares
+abbrev pub summed : ℕ → ℕ → ℕ → List ℕ → ℕ → ℤ → Entry
+summed f n t xs number value =
+    record { computed = answer (sumNumber f n t xs) (some (pos (sumValue f n t xs))) []; told = answer number (some value) [] }
 
 -- encode with field, k and number; decode with field and value
 abbrev pub encoded : ℕ → ℕ → ℤ → ℕ → ℤ → Entry

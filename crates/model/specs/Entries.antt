@@ -1,7 +1,7 @@
 -- The paper, "Fields and parties": the small entries share, recover, encode and decode. "These small entries refuse in this order: 2; 3;
 -- 4 for a list of the wrong length (t coefficients, n shares, and the lent outputs alike); 5 for a secret, coefficient, share or field
 -- value not below p; 6 for a row that is no sharing; 11 for a k not from 2 to the field's largest, or a number outside the k-bit range.
--- A refusal gives the value 0 and writes nothing."
+-- A refusal gives the value 0 and writes nothing." And request 4's small entry, the sum before reducing.
 -- Assumes nothing.
 use mathlib.Core.Bool.{Bool}
 use mathlib.Core.List.{List, [], _∷_, _++_}
@@ -14,7 +14,7 @@ use Rattle.algebra.specs.Rows.{padded}
 use Rattle.model.specs.Fields.{modulus, largestK, fieldTests, settingTests}
 use Rattle.model.specs.Refusing.{firstFailed, given}
 use Rattle.model.specs.Coding.{inRange, code, readBack}
-use Rattle.model.specs.Sharing.{share, recover, secret, isSharing}
+use Rattle.model.specs.Sharing.{share, recover, secret, secretSum, isSharing}
 
 -- share: secret s, coefficients cs, and the lent list of shares, by its length and as it was before the call
 unfoldable pub shareTests : ℕ → ℕ → ℕ → ℕ → List ℕ → ℕ → List (Bool × ℕ)
@@ -41,6 +41,18 @@ recoverValue f n t xs out = given (recoverNumber f n t xs out) (secret (modulus 
 
 unfoldable pub recoverLeft : ℕ → ℕ → ℕ → List ℕ → List ℕ → List ℕ
 recoverLeft f n t xs out = given (recoverNumber f n t xs out) (drop 1 (recover (modulus f) t (padded xs))) out
+
+-- sum: a list xs of shares. "It refuses as recovery does", and it lends no list, so that 4 is for the row's length alone.
+unfoldable pub sumTests : ℕ → ℕ → ℕ → List ℕ → List (Bool × ℕ)
+sumTests f n t xs =
+    settingTests f n t ++ ((eqb (length xs) n, 4) ∷ (allBelow (modulus f) xs, 5) ∷ (isSharing (modulus f) n t (padded xs), 6) ∷ [])
+
+abbrev pub sumNumber : ℕ → ℕ → ℕ → List ℕ → ℕ
+sumNumber f n t xs = firstFailed (sumTests f n t xs)
+
+-- "the sum before reducing"
+unfoldable pub sumValue : ℕ → ℕ → ℕ → List ℕ → ℕ
+sumValue f n t xs = given (sumNumber f n t xs) (secretSum (modulus f) t (padded xs)) 0
 
 -- encode: a number a of k bits
 unfoldable pub encodeTests : ℕ → ℕ → ℤ → List (Bool × ℕ)

@@ -18,6 +18,7 @@ pub mod Parts
 pub mod Plain
 pub mod Formulas
 pub mod Shamir
+pub mod SumFirst
 pub mod Making
 pub mod Results
 pub mod ReadsOnly
@@ -29,6 +30,7 @@ pub mod Calls
 pub mod CallLists
 pub mod Columns
 pub mod ColumnForms
+pub mod Laws
 pub mod CaseForms
 pub mod SheetCases
 pub mod ScriptCases

@@ -3,16 +3,16 @@
 use mathlib.Core.Path.{_≡_}
 use mathlib.Core.Logic.{_↔_}
 use mathlib.Core.List.{List, List·Memᴰ as In}
-use Prim.Native.Nat.{ℕ, suc, _%_, _≤_, _<_}
+use Prim.Native.Nat.{ℕ, suc, _≤_, _<_}
 use lib.Dec.{T}
 use lib.IntN.{ℤ}
 use lib.ListN.{length}
 use Rattle.algebra.specs.Ring.{add, sub, mul}
-use Rattle.algebra.specs.Lists.{Below, from, Distinct}
+use Rattle.algebra.specs.Lists.{Below, Distinct}
 use Rattle.algebra.specs.Rows.{row, on, padded}
 use Rattle.model.specs.Fields.{Parties, modulus, largestK, InUse}
 use Rattle.model.specs.Coding.{inRange}
-use Rattle.model.specs.Sharing.{Sharing, eval, share, recover, secret, isSharing, at, weighted}
+use Rattle.model.specs.Sharing.{Sharing, eval, share, recover, secret, isSharing, at}
 use Rattle.model.specs.Entries.{shareNumber, shareLeft, recoverNumber, recoverValue, recoverLeft, encodeNumber, encodeValue, decodeNumber, decodeValue}
 
 -- c distinct points of 0 to n
@@ -52,9 +52,8 @@ pub record Shamir (p n t : ℕ) : Type 0 where
   -- "A cell is a share, a whole number from 0 to p − 1"; "its secret is the value at 0" of the one polynomial
   pub shares-below : (x : List ℕ) → Sharing p n t x → Below p x
   pub secret-is : (x : List ℕ) (s : Sharing p n t x) → secret p t x ≡ eval p (s .poly) 0
-  -- a secret is below p, and is the weighted sum of the shares of parties 1 to t + 1, reduced once
+  -- a secret is below p; it is the remainder of a sum of products (SumFirst)
   pub secret-below : (x : List ℕ) → secret p t x < p
-  pub secret-weighted : (x : List ℕ) → weighted p (from 1 (suc t)) (at 0 x) % p ≡ secret p t x
   -- sum, difference, multiple, constant
   pub sums : Closed p n t (add p)
   pub differences : Closed p n t (sub p)

@@ -75,3 +75,8 @@ weight p (z ∷ zs) x = mul p (ratio p x z) (weight p zs x)
 -- weight times value, summed and not reduced
 unfoldable pub weighted : ℕ → List ℕ → (ℕ → ℕ) → ℕ
 weighted p xs f = total xs (λ x. weight p xs x * f x)
+
+-- Request 4: reconstruction "multiplies each of shares 1 to t + 1 by its weight below p, adds, and reduces last". This is the sum before it is reduced;
+-- its remainder by p is the secret.
+unfoldable pub secretSum : ℕ → ℕ → List ℕ → ℕ
+secretSum p t x = weighted p (from 1 (suc t)) (at 0 x)

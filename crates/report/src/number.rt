@@ -11,14 +11,18 @@ pub fn line_end() {
 }
 
 pub fn number(text: &[u8], n: u32) {
-    put(text);
-    io::print_decimal(STDOUT_FILENO, n as u64);
+    wide(text, n as u64);
 }
 
 // A number that counts or is a place.
 pub fn count(text: &[u8], n: usize) {
+    wide(text, n as u64);
+}
+
+// A number of 64 bits.
+pub fn wide(text: &[u8], n: u64) {
     put(text);
-    io::print_decimal(STDOUT_FILENO, n as u64);
+    io::print_decimal(STDOUT_FILENO, n);
 }
 
 pub fn signed(text: &[u8], a: i64) {

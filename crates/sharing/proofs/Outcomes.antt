@@ -1,4 +1,4 @@
--- What share and recover leave: where nothing refuses, what was put; in a refusal, what stood there.
+-- What share, recover and sum answer and leave: where nothing refuses, what was put; in a refusal, what stood there.
 -- Assumes nothing.
 use mathlib.Core.Path.{_≡_, refl, sym, _∙_}
 use mathlib.Core.Bool.{true}
@@ -12,10 +12,12 @@ use Rattle.algebra.specs.Rows.{padded}
 use Rattle.algebra.proofs.Lists.{onto-all, onto-at-start}
 use Rattle.algebra.proofs.Tests.{and-left, and-right}
 use Rattle.model.specs.Fields.{modulus, InUse, Parties, fieldTests, settingTests}
-use Rattle.model.specs.Sharing.{share, recover, secret}
-use Rattle.model.specs.Entries.{shareTests, shareNumber, shareLeft, recoverNumber, recoverValue, recoverLeft}
+use Rattle.model.specs.Sharing.{share, recover, secret, secretSum}
+use Rattle.model.specs.Refusing.{firstFailed}
+use Rattle.model.specs.Entries.{shareTests, shareNumber, shareLeft, recoverTests, recoverNumber, recoverValue, recoverLeft, sumNumber, sumValue}
 use Rattle.model.proofs.Trying.{given-refused, numbered, holding, upTo, all-hold, first-pass, front-passes, setting-numbered, setting-field, setting-people}
 use Rattle.model.proofs.Entries.{share-accepted, share-left, length-shares, recover-value, recover-left}
+use Rattle.model.proofs.SumFirst.{sum-number, sum-value, sum-refused}
 
 -- what is known where share answers neither 2, 3 nor 4, whatever it refuses after them
 pub record Fits (f n t lent : ℕ) : Type 0 where
@@ -59,3 +61,17 @@ module _ (f n t : ℕ) (xs out : List ℕ) {r : ℕ} (e : r ≡ recoverNumber f 
   pub refused-left : (r ≡ 0 → ⊥) → out ≡ recoverLeft f n t xs out
   unfolding recoverLeft
   refused-left k = sym (given-refused _ _ _ (λ z. k (e ∙ z)))
+
+-- sum is answered by recovery's number where that is lent t places
+module _ (f n t : ℕ) (xs : List ℕ) {r : ℕ} (e : r ≡ firstFailed (recoverTests f n t xs t)) where
+  pub summed-number : r ≡ sumNumber f n t xs
+  summed-number = e ∙ sym (sum-number f n t xs t refl)
+
+  pub summed-done : r ≡ 0 → 0 ≡ sumNumber f n t xs
+  summed-done z = sym z ∙ summed-number
+
+  pub summed-value : r ≡ 0 → {p v : ℕ} → p ≡ modulus f → {x : List ℕ} → x ≡ padded xs → v ≡ secretSum p t x → v ≡ sumValue f n t xs
+  summed-value z q x-is w = w ∙ rw (x-is, q) (sym (sum-value f n t xs (sym summed-number ∙ z)))
+
+  pub summed-refused : (r ≡ 0 → ⊥) → 0 ≡ sumValue f n t xs
+  summed-refused k = sym (sum-refused f n t xs (λ z. k (summed-number ∙ z)))

@@ -1,4 +1,4 @@
-// Shamir's sharing: rows of shares, their secrets, and the entries share and recover.
+// Shamir's sharing: rows of shares, their secrets, and the entries share, recover and sum.
 pub mod polynomial;
 pub mod rows;
 pub mod secret;
@@ -7,13 +7,19 @@ pub mod setting;
 ghost use mathlib.Core.Path.{_≡_};
 ghost use Rattle.model.specs.Fields as Fields;
 ghost use Rattle.model.specs.Refusing.{firstFailed};
-ghost use Rattle.model.specs.Entries.{shareTests, shareNumber, shareLeft, recoverTests, recoverNumber, recoverValue, recoverLeft};
+ghost use Rattle.model.specs.Entries.{shareTests, shareNumber, shareLeft, recoverTests, recoverNumber, recoverValue, recoverLeft, sumNumber, sumValue};
 use field::table;
 
 // What recover answers: the paper's number, and the secret, 0 where it refuses.
 pub struct Recovered {
     pub number: u32,
     pub value: u32,
+}
+
+// What sum answers: the paper's number, and the sum before reducing, 0 where it refuses.
+pub struct Summed {
+    pub number: u32,
+    pub sum: u64,
 }
 
 // Shares a secret with t coefficients, the first power's first: share j goes to shares[j - 1]. Answers the paper's number: 0, or 2, 3, 4, 5,
@@ -50,6 +56,20 @@ pub fn recover(field: u32, n: u32, t: u32, row: &[u32], coefficients: &mut [u32]
     let value = secret::secret_of(table::modulus(f), t as usize, cells);
     polynomial::put_coefficients(f, t as usize, cells, value, coefficients);
     Recovered { number: 0, value }
+}
+
+// The sum before reducing, of a row of n shares: each of shares 1 to t + 1 times its weight below p, added. It refuses as recover does where that is
+// lent a list of t places: 2, 3, 4, 5, 6.
+pub fn sum(field: u32, n: u32, t: u32, row: &[u32]) -> Summed
+    ensures { λ r. ⌜ (r .number ≡ sumNumber field n t (now (row .entry))) × (r .sum ≡ sumValue field n t (now (row .entry))) ⌝ }
+{
+    let number = recover_number(field, n, t, row, t as usize);
+    if number != 0 {
+        return Summed { number, sum: 0 };
+    }
+    let p = table::modulus(field as usize);
+    let sum = secret::secret_sum(p, t as usize, rows::gather(row));
+    Summed { number: 0, sum }
 }
 
 // The number that share answers, of a lent list of the given length.

@@ -1,4 +1,4 @@
-// The secret of a row as a weighted sum, and the test that a row is a sharing.
+// The secret of a row, as the remainder of a weighted sum, and the test that a row is a sharing.
 ghost use mathlib.Core.Path.{_≡_};
 ghost use Prim.Native.Nat.{_+_, _%_, _^_, _≤_, _<_};
 ghost use lib.ListN.{getD};
@@ -7,7 +7,6 @@ ghost use Rattle.algebra.specs.Rows as Rows;
 ghost use Rattle.model.specs.Fields as Fields;
 ghost use Rattle.model.specs.Sharing as Sharing;
 use crate::rows::Row;
-use field::arithmetic;
 
 // Four to a count e: the binomial coefficients e over 1 to e over 4.
 const BINOMIALS: [u32; 16] = [1, 0, 0, 0, 2, 1, 0, 0, 3, 3, 1, 0, 4, 6, 4, 1];
@@ -27,27 +26,51 @@ fn wide(x: u32) -> u64
     x as u64
 }
 
-// The value at place i that the shares of parties i + 1 to i + e give: weight times share, summed, and reduced once.
-pub fn value_before(p: u32, e: usize, row: Row, i: usize) -> u32
+// The sum before reducing, of the shares of parties i + 1 to i + e: each times its weight below p, added. The weights are 2p + 1 at most, taken
+// together, so the sum of any 32-bit shares fits.
+pub fn weighted_sum(p: u32, e: usize, row: Row, i: usize) -> u64
     requires { ⌜ Fields.Modulus p × (e ≤ 4) × (i + e ≤ 7) ⌝ }
-    ensures { λ r. ⌜ (r ≡ Sharing.weighted p (from 1 e) (λ x. Sharing.at 0 (row .shares) (i + x)) % p) × (r < p) ⌝ }
+    ensures { λ r. ⌜ r ≡ Sharing.weighted p (from 1 e) (λ x. Sharing.at 0 (row .shares) (i + x)) ⌝ }
 {
     let mut sum: u64 = 0;
     let mut x: usize = 0;
     while x < e {
-        let share = arithmetic::reduce(p, row.shares[i + x]);
-        sum += wide(weight(p, e, x + 1)) * wide(share);
+        sum += wide(weight(p, e, x + 1)) * wide(row.shares[i + x]);
         x += 1;
     }
+    sum
+}
+
+// Reduces a sum, which is done last.
+fn reduce_sum(p: u32, sum: u64) -> u32
+    requires { ⌜ Fields.Modulus p ⌝ }
+    ensures { λ r. ⌜ (r ≡ sum % p) × (r < p) ⌝ }
+{
     (sum % wide(p)) as u32
 }
 
-// The secret of a row, from the shares of parties 1 to t + 1.
+// The value at place i that the shares of parties i + 1 to i + e give.
+pub fn value_before(p: u32, e: usize, row: Row, i: usize) -> u32
+    requires { ⌜ Fields.Modulus p × (e ≤ 4) × (i + e ≤ 7) ⌝ }
+    ensures { λ r. ⌜ (r ≡ Sharing.weighted p (from 1 e) (λ x. Sharing.at 0 (row .shares) (i + x)) % p) × (r < p) ⌝ }
+{
+    reduce_sum(p, weighted_sum(p, e, row, i))
+}
+
+// The sum whose remainder is the secret of a row: from the shares of parties 1 to t + 1.
+pub fn secret_sum(p: u32, t: usize, row: Row) -> u64
+    requires { ⌜ Fields.Modulus p × (t ≤ 3) ⌝ }
+    ensures { λ r. ⌜ r ≡ Sharing.secretSum p t (row .shares) ⌝ }
+{
+    weighted_sum(p, t + 1, row, 0)
+}
+
+// The secret of a row. Every opening, recovery and the tests of masks and triples reconstruct it here.
 pub fn secret_of(p: u32, t: usize, row: Row) -> u32
     requires { ⌜ Fields.Modulus p × (t ≤ 3) ⌝ }
     ensures { λ r. ⌜ (r ≡ Sharing.secret p t (row .shares)) × (r < p) ⌝ }
 {
-    value_before(p, t + 1, row, 0)
+    reduce_sum(p, secret_sum(p, t, row))
 }
 
 // Whether the first n cells of a row are a sharing: all are below p, and each is what the t + 1 after it give.

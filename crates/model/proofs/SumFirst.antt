@@ -1,0 +1,181 @@
+-- Sum first, reduce after: the weights among parties 1 to t + 1, what the sum is and how large, its remainder, and its refusals.
+-- Assumes nothing.
+use mathlib.Core.Path.{_≡_, refl, sym, ap, _∙_}
+use mathlib.Core.Logic.{_≢_}
+use mathlib.Core.List.{List, [], _∷_, map, List·Memᴰ as In, List·Memᴰ·head as here, List·Memᴰ·tail as there}
+use Prim.Native.Nat.{ℕ, zero, suc, _+_, _-_, _*_, _/_, _%_, _^_, _≤_, _<_, zero-le}
+use native.Mathlib.Nat.{mul-le-mul, le-trans, zero-mod}
+use native.Mathlib.Decide.{decLe}
+use native.Mathlib.Omega.{arith}
+use borrow.Author.Tests.{eq-eqb}
+use lib.ListN.{length, replicate}
+use Rattle.algebra.specs.Ring.{add, sub, mul}
+use Rattle.algebra.specs.Lists.{Below, allBelow, from, total, sameList}
+use Rattle.algebra.specs.Rows.{tab, row, padded}
+use Rattle.algebra.proofs.Lists.{below-any, length-from, total-le, total-scaled}
+use Rattle.model.specs.Fields.{Modulus, Parties, modulus, inUse, InUse, inverse, parties, fieldTests, settingTests}
+use Rattle.model.specs.Sharing.{eval, share, newton, reciprocal, slope, interpolate, at, recover, secret, isSharing, ratio, weight, weighted, secretSum}
+use Rattle.model.specs.Refusing.{firstFailed}
+use Rattle.model.specs.Entries.{recoverTests, recoverNumber, recoverValue, sumTests, sumNumber, sumValue}
+use Rattle.model.specs.SumFirst.{HandSheet, Fits, SumFirst}
+use Rattle.model.proofs.Fields.{fields, below-four}
+use Rattle.model.proofs.Polynomials.{positive}
+use Rattle.model.proofs.Sharings.{shares-below}
+use Rattle.model.proofs.Weights.{weight-lt, secret-weighted}
+use Rattle.model.proofs.Trying.{given-done, given-refused}
+use Rattle.model.proofs.Entries.{Recovers, recover-accepted, recover-value}
+
+-- the weights among parties 1 to e, party 1's first
+weights : ℕ → ℕ → List ℕ
+weights p e = map (weight p (from 1 e)) (from 1 e)
+
+-- in each field, for the thresholds 1, 2 and 3
+hand-weights : (f : ℕ) → InUse f
+    → (weights (modulus f) 2 ≡ 2 ∷ (modulus f - 1) ∷ []) × (weights (modulus f) 3 ≡ 3 ∷ (modulus f - 3) ∷ 1 ∷ [])
+    × (weights (modulus f) 4 ≡ 4 ∷ (modulus f - 6) ∷ 4 ∷ (modulus f - 1) ∷ [])
+unfolding modulus inverse sub mul from reciprocal ratio weight weights
+hand-weights zero h = (refl, refl, refl)
+hand-weights (suc zero) h = (refl, refl, refl)
+hand-weights (suc (suc zero)) h = (refl, refl, refl)
+hand-weights (suc (suc (suc zero))) h = (refl, refl, refl)
+hand-weights (suc (suc (suc (suc f)))) h = absurd (omega (arith, below-four _ h))
+
+-- a sum of products, by the list of the weights and that of the values
+dot : List ℕ → List ℕ → ℕ
+dot [] ys = 0
+dot (x ∷ xs) [] = 0
+dot (x ∷ xs) (y ∷ ys) = x * y + dot xs ys
+
+total-dot : (w g : ℕ → ℕ) (xs : List ℕ) → total xs (λ x. w x * g x) ≡ dot (map w xs) (map g xs)
+unfolding total dot
+total-dot w g [] = refl
+total-dot w g (x ∷ xs) = ap (λ (a : ℕ). w x * g x + a) (total-dot w g xs)
+
+total-map : (w : ℕ → ℕ) (xs : List ℕ) → total xs w ≡ total (map w xs) (λ a. a)
+unfolding total
+total-map w [] = refl
+total-map w (x ∷ xs) = ap (λ (a : ℕ). w x + a) (total-map w xs)
+
+weights-added : (p e : ℕ) → total (from 1 e) (weight p (from 1 e)) ≡ total (weights p e) (λ a. a)
+unfolding weights
+weights-added p e = total-map (weight p (from 1 e)) (from 1 e)
+
+-- Together the weights among parties 1 to e are at most 2p + 1. So the sum of their products with any 32-bit numbers fits 64 bits.
+pub weights-total : {p : ℕ} → Modulus p → (e : ℕ) → e ≤ 4 → total (from 1 e) (weight p (from 1 e)) ≤ 2 * p + 1
+unfolding total
+weights-total {p} M e h = rw (weights-added p e, M .is) (go (M .number) (M .in-use) (rw (M .is) at (M .above)) e h)
+  where
+    go : (f : ℕ) → InUse f → 7 < modulus f → (e : ℕ) → e ≤ 4 → total (weights (modulus f) e) (λ a. a) ≤ 2 * modulus f + 1
+    go f u above zero k = unfold from weights in omega arith
+    go f u above (suc zero) k = unfold from weights in omega (arith, weight-lt {p = modulus f} (omega arith) (from 1 1) 1)
+    go f u above (suc (suc zero)) k = rw (hand-weights f u .0) (omega arith)
+    go f u above (suc (suc (suc zero))) k = rw (hand-weights f u .1) (omega arith)
+    go f u above (suc (suc (suc (suc zero)))) k = rw (hand-weights f u .2) (omega arith)
+    go f u above (suc (suc (suc (suc (suc e))))) k = absurd (omega arith)
+
+-- the sum is given where nothing refuses, and refuses as recovery does
+module _ (f n t : ℕ) (xs : List ℕ) where
+  pub sum-value : sumNumber f n t xs ≡ 0 → sumValue f n t xs ≡ secretSum (modulus f) t (padded xs)
+  unfolding sumValue
+  sum-value e = given-done _ _ _ e
+
+  pub sum-refused : sumNumber f n t xs ≢ 0 → sumValue f n t xs ≡ 0
+  unfolding sumValue
+  sum-refused k = given-refused _ _ _ k
+
+  pub sum-number : (lent : ℕ) → lent ≡ t → sumNumber f n t xs ≡ firstFailed (recoverTests f n t xs lent)
+  unfolding fieldTests settingTests firstFailed sumTests recoverTests
+  sum-number lent e = rw (eq-eqb lent t e) refl
+
+  pub sum-accepted : sumNumber f n t xs ≡ 0 → Recovers f n t xs t
+  sum-accepted e = recover-accepted f n t xs t (sym (sum-number t refl) ∙ e)
+
+-- of a row that is accepted
+module _ (f n t : ℕ) (xs : List ℕ) (A : Recovers f n t xs t) where
+  M : Modulus (modulus f)
+  M = fields f (A .field) .modulus-is
+
+  share-most : (j : ℕ) → at 0 (padded xs) j ≤ modulus f - 1
+  share-most zero = zero-le
+  share-most (suc j) = omega (arith, below-any (positive M) (shares-below M (A .people) (A .sharing)) j)
+
+  sum-below : secretSum (modulus f) t (padded xs) ≤ 9223372026117357570
+  unfolding secretSum weighted
+  sum-below =
+      let P = A .people in
+      le-trans (total-scaled (modulus f - 1) _ (at 0 (padded xs)) (from 1 (suc t)) (λ z _. share-most z))
+      (mul-le-mul {n₂ = 4294967295} {m₂ = 2147483646} (omega (arith, weights-total M (suc t) (omega arith), M .word)) (omega (arith, M .word)))
+
+  sum-remainder : secretSum (modulus f) t (padded xs) % modulus f ≡ secret (modulus f) t (padded xs)
+  unfolding secretSum
+  sum-remainder = let P = A .people in secret-weighted M t (omega arith) (padded xs)
+
+-- of any
+module _ (f n t : ℕ) (xs : List ℕ) where
+  sum-most : sumValue f n t xs ≤ 9223372026117357570
+  sum-most = go (decLe (sumNumber f n t xs) 0)
+    where
+      go : Dec (sumNumber f n t xs ≤ 0) → sumValue f n t xs ≤ 9223372026117357570
+      go (yes l) = let e : sumNumber f n t xs ≡ 0 = omega arith in rw (sum-value f n t xs e) (sum-below f n t xs (sum-accepted f n t xs e))
+      go (no k) = rw (sum-refused f n t xs (λ z. k (omega arith))) zero-le
+
+  remainder-is : (out : List ℕ) → length out ≡ t → sumValue f n t xs % modulus f ≡ recoverValue f n t xs out
+  unfolding recoverValue
+  remainder-is out l = go (decLe (sumNumber f n t xs) 0) (sum-number f n t xs (length out) l)
+    where
+      go : Dec (sumNumber f n t xs ≤ 0) → sumNumber f n t xs ≡ recoverNumber f n t xs out → sumValue f n t xs % modulus f ≡ recoverValue f n t xs out
+      go (yes l) same =
+          let e : sumNumber f n t xs ≡ 0 = omega arith in
+          ap (λ (a : ℕ). a % modulus f) (sum-value f n t xs e) ∙ sum-remainder f n t xs (sum-accepted f n t xs e)
+          ∙ sym (recover-value f n t xs out (sym same ∙ e))
+      go (no k) same =
+          ap (λ (a : ℕ). a % modulus f) (sum-refused f n t xs (λ z. k (omega arith))) ∙ zero-mod (modulus f)
+          ∙ sym (given-refused (recoverNumber f n t xs out) _ _ (λ z. k (omega (arith, same, z))))
+
+-- the hand sheet: the weights and the first shares, product by product
+module _ (f n : ℕ) (others : List ℕ) where
+  by-products : (t : ℕ) (xs : List ℕ) → sumNumber f n t xs ≡ 0 → sumValue f n t xs ≡ dot (weights (modulus f) (suc t)) (map (at 0 (padded xs)) (from 1 (suc t)))
+  unfolding secretSum weighted weights
+  by-products t xs e = sum-value f n t xs e ∙ total-dot _ _ (from 1 (suc t))
+
+  hand-sheet : HandSheet f n others
+  unfolding dot from tab row
+  hand-sheet =
+      record {
+        two = λ a b e. by-products 1 _ e ∙ rw (hand-weights f (sum-accepted f n 1 _ e .field) .0) (omega arith);
+        three = λ a b c e. by-products 2 _ e ∙ rw (hand-weights f (sum-accepted f n 2 _ e .field) .1) (omega arith);
+        four = λ a b c d e. by-products 3 _ e ∙ rw (hand-weights f (sum-accepted f n 3 _ e .field) .2) (omega arith);
+      }
+
+fits-at : (f : ℕ) → InUse f → Fits (modulus f)
+fits-at f h =
+    record {
+      weights-below = λ xs x. weight-lt (omega (arith, M .above)) xs x;
+      four-products = λ xs a b l k.
+          let most = total-le 4611686009837453316 (λ z. a z * b z) xs (λ z m. mul-le-mul {n₂ = 2147483646} {m₂ = 2147483646}
+          (omega (arith, k z m .0, M .word)) (omega (arith, k z m .1, M .word))) in
+          omega (arith, most, l);
+    }
+  where
+    M : Modulus (modulus f)
+    M = fields f h .modulus-is
+
+largest-sum : (sumNumber 3 7 3 (replicate 7 2147483646) ≡ 0) × (sumValue 3 7 3 (replicate 7 2147483646) ≡ 9223372026117357570)
+unfolding add sub mul allBelow sameList from total tab row modulus inUse fieldTests settingTests inverse parties eval share newton reciprocal slope interpolate recover isSharing ratio weight weighted secretSum firstFailed sumTests sumValue
+largest-sum = (refl, refl)
+
+pub sum-first : SumFirst
+sum-first =
+    record {
+      hand-sheet = hand-sheet;
+      fits = fits-at;
+      at-most-four = λ n t P. rw length-from (omega arith);
+      shares-below = λ f n t xs e. (sum-accepted f n t xs e .shares, sum-accepted f n t xs e .below);
+      sum-fits = λ f n t xs. omega (arith, sum-most f n t xs);
+      largest = sum-most;
+      attained = largest-sum;
+      reduced-last = λ f n t h P x. unfold secretSum in secret-weighted (fields f h .modulus-is) t (omega arith) x;
+      remainder = remainder-is;
+      refuses = λ f n t xs out l. sum-number f n t xs (length out) l;
+      refused = sum-refused;
+    }
