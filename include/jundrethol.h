@@ -129,8 +129,9 @@ uint32_t jundrethol_recover(
 
 /* The sum before reducing: each of shares 1 to t + 1 of a row times its weight below p, added and not reduced. Its remainder by p is the secret
  * that jundrethol_recover gives on the same row. The weights, party 1's first, are 2 and p - 1 for t = 1; 3, p - 3 and 1 for t = 2; 4, p - 6, 4
- * and p - 1 for t = 3. So at most four products are added, and the sum is at most 9223372026117357570, which fits 64 bits. The row's length is
- * exactly n. Answers 0, or a refusal 2, 3, 4, 5 or 6, which sets the sum to 0. */
+ * and p - 1 for t = 3. So at most four products are added, and the sum is at most 9223372026117357570, which fits 64 bits. It says more of the
+ * shares than the secret does: show it to nobody who may know the secret only. The row's length is exactly n. Answers 0, or a refusal 2, 3, 4, 5
+ * or 6, which sets the sum to 0. */
 uint32_t jundrethol_sum(
     uint32_t field, uint32_t n, uint32_t t, uint64_t *sum,
     const uint32_t *row, size_t row_length);

@@ -208,7 +208,7 @@ mod tests {
     }
 
     #[test]
-    fn a_sum_lends_nothing() {
+    fn a_sum_has_no_lent_list() {
         let case = Case::Sum(SumCase {
             field: 3,
             parties: 4,

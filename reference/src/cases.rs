@@ -45,9 +45,16 @@ pub fn all() -> Vec<Case> {
     cases.extend(decode_edges::all());
     cases.extend(held::of_the_paper().into_iter().map(|(_, case)| case));
     cases.extend(generated::all());
-    cases.extend(sum_edges::all());
-    cases.extend(held::sums::all().into_iter().map(|(_, case)| case));
-    cases.extend(drawn_sums::all());
+    let held = held::sums::all().into_iter().map(|(_, case)| case);
+    for case in sum_edges::all()
+        .into_iter()
+        .chain(held)
+        .chain(drawn_sums::all())
+    {
+        if !cases.contains(&case) {
+            cases.push(case);
+        }
+    }
     cases
 }
 

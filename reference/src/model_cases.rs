@@ -147,11 +147,14 @@ fn body(rows: Vec<Row>) -> String {
     body
 }
 
+/// A space at which no line is broken.
+const TIE: char = '\u{a0}';
+
 /// Lines are broken before an operator, and not between pos and its number.
 fn wrapped(part: &str) -> String {
     let kept = ["∷", "++", "pos"];
     let part = kept.iter().fold(part.to_owned(), |part, word| {
-        part.replace(&format!("{word} "), &format!("{word}_"))
+        part.replace(&format!("{word} "), &format!("{word}{TIE}"))
     });
     let mut text = String::new();
     let mut line = String::from("   ");
@@ -163,7 +166,7 @@ fn wrapped(part: &str) -> String {
         line += &format!(" {word}");
     }
     text += &format!("{line}\n");
-    text.replace('_', " ")
+    text.replace(TIE, " ")
 }
 
 fn sheet_rows(all: &[Held]) -> Vec<Row> {

@@ -6,7 +6,7 @@ ghost use Rattle.algebra.specs.Ring as Ring;
 ghost use Rattle.model.specs.Fields as Fields;
 
 // a modulo p.
-pub fn reduce(p: u32, a: u32) -> u32
+fn reduce(p: u32, a: u32) -> u32
     requires { ⌜ Fields.Modulus p ⌝ }
     ensures { λ r. ⌜ (r ≡ a % p) × (r < p) ⌝ }
 {

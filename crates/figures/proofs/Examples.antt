@@ -8,10 +8,10 @@ use mathlib.Core.List.{[], _∷_, List·Memᴰ as In, List·Memᴰ·head as here
 use Prim.Native.Nat.{ℕ, suc, _≤_}
 use native.Mathlib.Omega.{arith}
 use Rattle.algebra.specs.Ring.{add, sub, mul}
-use Rattle.algebra.specs.Lists.{from, total, sameList}
+use Rattle.algebra.specs.Lists.{from, sameList}
 use Rattle.algebra.specs.Rows.{tab, row, padded}
 use Rattle.model.specs.Fields.{modulus, inUse, inverse, Parties}
-use Rattle.model.specs.Sharing.{eval, newton, reciprocal, slope, interpolate, share, Sharing, recover, secret, isSharing, ratio, weight, weighted}
+use Rattle.model.specs.Sharing.{eval, newton, reciprocal, slope, interpolate, share, Sharing, recover, secret, isSharing, ratio, weight}
 use Rattle.model.specs.Shamir.{Group}
 use Rattle.figures.specs.TwinSheets.{Groups}
 use Rattle.model.proofs.Fields.{fields}
@@ -25,7 +25,7 @@ pub figures : (recover 13 1 (padded (7 ∷ 9 ∷ 11 ∷ [])) ≡ 5 ∷ 2 ∷ [])
     × (recover 2147483647 3 (share 2147483647 7 (1 ∷ 2147483646 ∷ 5 ∷ 99 ∷ [])) ≡ 1 ∷ 2147483646 ∷ 5 ∷ 99 ∷ [])
     × (tab 4 (λ j. weight 251 (from 1 4) (suc j)) ≡ 4 ∷ 245 ∷ 4 ∷ 250 ∷ [])
     × (isSharing 13 3 1 (padded (7 ∷ 9 ∷ 12 ∷ [])) ≡ false)
-unfolding add sub mul from total tab row inverse eval newton reciprocal slope interpolate share recover secret sameList isSharing ratio weight weighted
+unfolding add sub mul from tab row inverse eval newton reciprocal slope interpolate share recover secret sameList isSharing ratio weight
 figures = (refl, refl, refl, refl, refl, refl, refl, refl)
 
 pub three-and-one : Parties 3 1

@@ -2,8 +2,8 @@
 -- Assumes nothing.
 use mathlib.Core.Path.{_≡_, refl, sym, ap, _∙_}
 use mathlib.Core.Logic.{_≢_}
-use mathlib.Core.List.{List, [], _∷_, map, List·Memᴰ as In, List·Memᴰ·head as here, List·Memᴰ·tail as there}
-use Prim.Native.Nat.{ℕ, zero, suc, _+_, _-_, _*_, _/_, _%_, _^_, _≤_, _<_, zero-le}
+use mathlib.Core.List.{List, [], _∷_, map}
+use Prim.Native.Nat.{ℕ, zero, suc, _+_, _-_, _*_, _%_, _≤_, _<_, zero-le}
 use native.Mathlib.Nat.{mul-le-mul, le-trans, zero-mod}
 use native.Mathlib.Decide.{decLe}
 use native.Mathlib.Omega.{arith}
@@ -12,16 +12,16 @@ use lib.ListN.{length, replicate}
 use Rattle.algebra.specs.Ring.{add, sub, mul}
 use Rattle.algebra.specs.Lists.{Below, allBelow, from, total, sameList}
 use Rattle.algebra.specs.Rows.{tab, row, padded}
-use Rattle.algebra.proofs.Lists.{below-any, length-from, total-le, total-scaled}
+use Rattle.algebra.proofs.Lists.{below-any, in-from, length-from, total-le, total-scaled}
+use Rattle.algebra.proofs.Rows.{row-at}
 use Rattle.model.specs.Fields.{Modulus, Parties, modulus, inUse, InUse, inverse, parties, fieldTests, settingTests}
 use Rattle.model.specs.Sharing.{eval, share, newton, reciprocal, slope, interpolate, at, recover, secret, isSharing, ratio, weight, weighted, secretSum}
 use Rattle.model.specs.Refusing.{firstFailed}
 use Rattle.model.specs.Entries.{recoverTests, recoverNumber, recoverValue, sumTests, sumNumber, sumValue}
-use Rattle.model.specs.SumFirst.{HandSheet, Fits, SumFirst}
+use Rattle.model.specs.SumFirst.{HandSheet, ProductsFit, Reconstructs, SumEntry, SumFirst}
 use Rattle.model.proofs.Fields.{fields, below-four}
 use Rattle.model.proofs.Polynomials.{positive}
-use Rattle.model.proofs.Sharings.{shares-below}
-use Rattle.model.proofs.Weights.{weight-lt, secret-weighted}
+use Rattle.model.proofs.Weights.{weight-lt, weighted-cong, secret-weighted}
 use Rattle.model.proofs.Trying.{given-done, given-refused}
 use Rattle.model.proofs.Entries.{Recovers, recover-accepted, recover-value}
 
@@ -90,64 +90,97 @@ module _ (f n t : ℕ) (xs : List ℕ) where
   pub sum-accepted : sumNumber f n t xs ≡ 0 → Recovers f n t xs t
   sum-accepted e = recover-accepted f n t xs t (sym (sum-number t refl) ∙ e)
 
--- of a row that is accepted
-module _ (f n t : ℕ) (xs : List ℕ) (A : Recovers f n t xs t) where
-  M : Modulus (modulus f)
-  M = fields f (A .field) .modulus-is
+-- reconstruction, of any row
+pub sum-secret : {p : ℕ} → Modulus p → (t : ℕ) → t < 7 → (x : List ℕ) → secretSum p t x % p ≡ secret p t x
+unfolding secretSum
+sum-secret M t h x = secret-weighted M t h x
 
-  share-most : (j : ℕ) → at 0 (padded xs) j ≤ modulus f - 1
-  share-most zero = zero-le
-  share-most (suc j) = omega (arith, below-any (positive M) (shares-below M (A .people) (A .sharing)) j)
-
-  sum-below : secretSum (modulus f) t (padded xs) ≤ 9223372026117357570
+module _ {p n t : ℕ} (M : Modulus p) (P : Parties n t) where
+  sum-most : (x : List ℕ) → Below p x → secretSum p t x ≤ 9223372026117357570
   unfolding secretSum weighted
-  sum-below =
-      let P = A .people in
-      le-trans (total-scaled (modulus f - 1) _ (at 0 (padded xs)) (from 1 (suc t)) (λ z _. share-most z))
+  sum-most x B =
+      le-trans (total-scaled (p - 1) _ (at 0 x) (from 1 (suc t)) (λ z _. share-most z))
       (mul-le-mul {n₂ = 4294967295} {m₂ = 2147483646} (omega (arith, weights-total M (suc t) (omega arith), M .word)) (omega (arith, M .word)))
+    where
+      share-most : (j : ℕ) → at 0 x j ≤ p - 1
+      share-most zero = zero-le
+      share-most (suc j) = omega (arith, below-any (positive M) B j)
 
-  sum-remainder : secretSum (modulus f) t (padded xs) % modulus f ≡ secret (modulus f) t (padded xs)
-  unfolding secretSum
-  sum-remainder = let P = A .people in secret-weighted M t (omega arith) (padded xs)
+  reconstructs-at : Reconstructs p n t
+  reconstructs-at =
+      record {
+        at-most-four = rw length-from (omega arith);
+        row-fits = λ x B. omega (arith, sum-most x B);
+        reduced-last = sum-secret M t (omega arith);
+      }
 
--- of any
+-- the hand sheet: the weights and the first shares, product by product
+by-products : (p t : ℕ) (x : List ℕ) → secretSum p t x ≡ dot (weights p (suc t)) (map (at 0 x) (from 1 (suc t)))
+unfolding secretSum weighted weights
+by-products p t x = total-dot _ _ (from 1 (suc t))
+
+hand-sheet : (f : ℕ) → InUse f → (others : List ℕ) → HandSheet (modulus f) others
+unfolding dot from
+hand-sheet f h others =
+    let w = hand-weights f h in
+    record {
+      two = λ a b. by-products _ 1 _ ∙ rw (w .0) (omega arith);
+      three = λ a b c. by-products _ 2 _ ∙ rw (w .1) (omega arith);
+      four = λ a b c d. by-products _ 3 _ ∙ rw (w .2) (omega arith);
+    }
+
+-- the entry
 module _ (f n t : ℕ) (xs : List ℕ) where
-  sum-most : sumValue f n t xs ≤ 9223372026117357570
-  sum-most = go (decLe (sumNumber f n t xs) 0)
+  sum-gives : sumNumber f n t xs ≡ 0 → sumValue f n t xs ≡ secretSum (modulus f) t xs
+  unfolding secretSum
+  sum-gives e =
+      let A = sum-accepted f n t xs e in
+      let P = A .people in
+      sum-value f n t xs e
+      ∙ weighted-cong (modulus f) (from 1 (suc t)) _ _ (λ z m. let b = in-from 1 (suc t) m in as-handed z (b .0) (omega (arith, b .1, A .shares, P)))
+    where
+      as-handed : (z : ℕ) → 1 ≤ z → z ≤ length xs → at 0 (padded xs) z ≡ at 0 xs z
+      as-handed zero l k = absurd (omega arith)
+      as-handed (suc j) l k = row-at (length xs) _ j (omega arith)
+
+  entry-most : sumValue f n t xs ≤ 9223372026117357570
+  entry-most = go (decLe (sumNumber f n t xs) 0)
     where
       go : Dec (sumNumber f n t xs ≤ 0) → sumValue f n t xs ≤ 9223372026117357570
-      go (yes l) = let e : sumNumber f n t xs ≡ 0 = omega arith in rw (sum-value f n t xs e) (sum-below f n t xs (sum-accepted f n t xs e))
+      go (yes l) =
+          let e : sumNumber f n t xs ≡ 0 = omega arith in
+          let A = sum-accepted f n t xs e in
+          rw (sum-gives e) (sum-most (fields f (A .field) .modulus-is) (A .people) xs (A .below))
       go (no k) = rw (sum-refused f n t xs (λ z. k (omega arith))) zero-le
 
-  remainder-is : (out : List ℕ) → length out ≡ t → sumValue f n t xs % modulus f ≡ recoverValue f n t xs out
+  entry-remainder : (out : List ℕ) → length out ≡ t → sumValue f n t xs % modulus f ≡ recoverValue f n t xs out
   unfolding recoverValue
-  remainder-is out l = go (decLe (sumNumber f n t xs) 0) (sum-number f n t xs (length out) l)
+  entry-remainder out l = go (decLe (sumNumber f n t xs) 0) (sum-number f n t xs (length out) l)
     where
       go : Dec (sumNumber f n t xs ≤ 0) → sumNumber f n t xs ≡ recoverNumber f n t xs out → sumValue f n t xs % modulus f ≡ recoverValue f n t xs out
       go (yes l) same =
           let e : sumNumber f n t xs ≡ 0 = omega arith in
-          ap (λ (a : ℕ). a % modulus f) (sum-value f n t xs e) ∙ sum-remainder f n t xs (sum-accepted f n t xs e)
+          let A = sum-accepted f n t xs e in
+          let P = A .people in
+          ap (λ (a : ℕ). a % modulus f) (sum-value f n t xs e) ∙ sum-secret (fields f (A .field) .modulus-is) t (omega arith) (padded xs)
           ∙ sym (recover-value f n t xs out (sym same ∙ e))
       go (no k) same =
           ap (λ (a : ℕ). a % modulus f) (sum-refused f n t xs (λ z. k (omega arith))) ∙ zero-mod (modulus f)
           ∙ sym (given-refused (recoverNumber f n t xs out) _ _ (λ z. k (omega (arith, same, z))))
 
--- the hand sheet: the weights and the first shares, product by product
-module _ (f n : ℕ) (others : List ℕ) where
-  by-products : (t : ℕ) (xs : List ℕ) → sumNumber f n t xs ≡ 0 → sumValue f n t xs ≡ dot (weights (modulus f) (suc t)) (map (at 0 (padded xs)) (from 1 (suc t)))
-  unfolding secretSum weighted weights
-  by-products t xs e = sum-value f n t xs e ∙ total-dot _ _ (from 1 (suc t))
-
-  hand-sheet : HandSheet f n others
-  unfolding dot from tab row
-  hand-sheet =
+  sum-entry : SumEntry f n t xs
+  sum-entry =
       record {
-        two = λ a b e. by-products 1 _ e ∙ rw (hand-weights f (sum-accepted f n 1 _ e .field) .0) (omega arith);
-        three = λ a b c e. by-products 2 _ e ∙ rw (hand-weights f (sum-accepted f n 2 _ e .field) .1) (omega arith);
-        four = λ a b c d e. by-products 3 _ e ∙ rw (hand-weights f (sum-accepted f n 3 _ e .field) .2) (omega arith);
+        takes = λ e. (sum-accepted f n t xs e .shares, sum-accepted f n t xs e .below);
+        gives = sum-gives;
+        refused = sum-refused f n t xs;
+        sum-fits = omega (arith, entry-most);
+        largest = entry-most;
+        remainder = entry-remainder;
+        refuses = λ out l. sum-number f n t xs (length out) l;
       }
 
-fits-at : (f : ℕ) → InUse f → Fits (modulus f)
+fits-at : (f : ℕ) → InUse f → ProductsFit (modulus f)
 fits-at f h =
     record {
       weights-below = λ xs x. weight-lt (omega (arith, M .above)) xs x;
@@ -168,14 +201,8 @@ pub sum-first : SumFirst
 sum-first =
     record {
       hand-sheet = hand-sheet;
-      fits = fits-at;
-      at-most-four = λ n t P. rw length-from (omega arith);
-      shares-below = λ f n t xs e. (sum-accepted f n t xs e .shares, sum-accepted f n t xs e .below);
-      sum-fits = λ f n t xs. omega (arith, sum-most f n t xs);
-      largest = sum-most;
+      products-fit = fits-at;
+      reconstructs = λ f n t h P. reconstructs-at (fields f h .modulus-is) P;
+      entry = sum-entry;
       attained = largest-sum;
-      reduced-last = λ f n t h P x. unfold secretSum in secret-weighted (fields f h .modulus-is) t (omega arith) x;
-      remainder = remainder-is;
-      refuses = λ f n t xs out l. sum-number f n t xs (length out) l;
-      refused = sum-refused;
     }

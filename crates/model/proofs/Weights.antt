@@ -120,20 +120,6 @@ module _ {p : ℕ} (M : Modulus p) where
   unfolding secret recover
   secret-weighted t h x = weighted-value (from 1 (suc t)) (at 0 x) (nodes-from 1 (suc t) (omega arith))
 
--- only the classes of the values count
-total-classes : {p : ℕ} → 0 < p → (w : ℕ → ℕ) (xs : List ℕ) (f g : ℕ → ℕ) → ((z : ℕ) → In z xs → f z % p ≡ g z % p)
-    → total xs (λ x. w x * f x) % p ≡ total xs (λ x. w x * g x) % p
-unfolding total
-total-classes h w [] f g k = refl
-total-classes h w (x ∷ xs) f g k =
-    given (w x) _ _ h (k x (here refl))
-    (given 1 _ _ h (total-classes h w xs f g (λ z m. k z (there m))) (simp mod-ring (ring h _ _ _ _ (omega arith))))
-
-pub weighted-classes : {p : ℕ} → 0 < p → (xs : List ℕ) (f g : ℕ → ℕ) → ((z : ℕ) → In z xs → f z % p ≡ g z % p)
-    → weighted p xs f % p ≡ weighted p xs g % p
-unfolding weighted
-weighted-classes {p} h xs f g k = total-classes h (weight p xs) xs f g k
-
 pub weighted-cong : (p : ℕ) (xs : List ℕ) (f g : ℕ → ℕ) → ((z : ℕ) → In z xs → f z ≡ g z) → weighted p xs f ≡ weighted p xs g
 unfolding weighted
 weighted-cong p xs f g k = total-cong xs _ _ (λ z m. ap (λ (v : ℕ). weight p xs z * v) (k z m))

@@ -42,7 +42,7 @@ recoverValue f n t xs out = given (recoverNumber f n t xs out) (secret (modulus 
 unfoldable pub recoverLeft : ℕ → ℕ → ℕ → List ℕ → List ℕ → List ℕ
 recoverLeft f n t xs out = given (recoverNumber f n t xs out) (drop 1 (recover (modulus f) t (padded xs))) out
 
--- sum: a list xs of shares. "It refuses as recovery does", and it lends no list, so that 4 is for the row's length alone.
+-- sum: a list xs of shares. "It refuses as recovery does", and it is lent no list, so that 4 is for the row's length alone.
 unfoldable pub sumTests : ℕ → ℕ → ℕ → List ℕ → List (Bool × ℕ)
 sumTests f n t xs =
     settingTests f n t ++ ((eqb (length xs) n, 4) ∷ (allBelow (modulus f) xs, 5) ∷ (isSharing (modulus f) n t (padded xs), 6) ∷ [])

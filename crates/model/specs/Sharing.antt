@@ -55,7 +55,7 @@ at v x (suc j) = getD x j 0
 unfoldable pub recover : ℕ → ℕ → List ℕ → List ℕ
 recover p t x = interpolate p (from 1 (suc t)) (at 0 x)
 
--- "its secret is the value at 0"
+-- "its secret is the value at 0". Request 4 says how it is reconstructed: by `secretSum`, below, which is reduced last.
 unfoldable pub secret : ℕ → ℕ → List ℕ → ℕ
 secret p t x = eval p (recover p t x) 0
 

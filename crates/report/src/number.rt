@@ -11,16 +11,16 @@ pub fn line_end() {
 }
 
 pub fn number(text: &[u8], n: u32) {
-    wide(text, n as u64);
+    long(text, n as u64);
 }
 
 // A number that counts or is a place.
 pub fn count(text: &[u8], n: usize) {
-    wide(text, n as u64);
+    long(text, n as u64);
 }
 
 // A number of 64 bits.
-pub fn wide(text: &[u8], n: u64) {
+pub fn long(text: &[u8], n: u64) {
     put(text);
     io::print_decimal(STDOUT_FILENO, n);
 }

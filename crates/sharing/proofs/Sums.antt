@@ -1,8 +1,8 @@
 -- The weighted sum as a loop has it, term by term, and that it fits 64 bits.
 -- Assumes nothing.
-use mathlib.Core.Path.{_≡_, refl, ap, _∙_}
+use mathlib.Core.Path.{_≡_, refl}
 use mathlib.Core.List.{List}
-use Prim.Native.Nat.{ℕ, suc, _+_, _-_, _*_, _%_, _^_, _≤_, _<_}
+use Prim.Native.Nat.{ℕ, suc, _+_, _-_, _*_, _^_, _≤_, _<_}
 use native.Mathlib.Nat.{add-mul, add-le-add, mul-le-mul, mul-le-mul-left, zero-add}
 use native.Mathlib.Numerals.{add-one}
 use native.Mathlib.Omega.{arith}
@@ -10,8 +10,8 @@ use lib.ListN.{getD}
 use Rattle.algebra.specs.Lists.{from, total}
 use Rattle.algebra.proofs.Lists.{total-more, total-front}
 use Rattle.model.specs.Fields.{Modulus}
-use Rattle.model.specs.Sharing.{at, secret, weight, weighted, secretSum}
-use Rattle.model.proofs.Weights.{weighted-cong, secret-weighted}
+use Rattle.model.specs.Sharing.{at, weight, weighted, secretSum}
+use Rattle.model.proofs.Weights.{weighted-cong}
 use Rattle.model.proofs.SumFirst.{weights-total}
 
 -- The first m of e terms are summed, party i + k's being its weight times its share. No share is over 2^32 - 1.
@@ -24,7 +24,7 @@ pub summing-start : (p e : ℕ) (x : List ℕ) (i : ℕ) → Summing p e x i 0 0
 unfolding from total
 summing-start p e x i = record { done = omega arith; is = refl; most = omega arith }
 
-module _ {p : ℕ} (M : Modulus p) {e : ℕ} (h : e ≤ 4) {x : List ℕ} {i m s : ℕ} (S : Summing p e x i m s) where
+module _ {p e : ℕ} {x : List ℕ} {i m s : ℕ} (S : Summing p e x i m s) where
   -- one term more
   pub summing-more : {w v : ℕ} → m < e → w ≡ weight p (from 1 e) (m + 1) → v ≡ getD x (i + m) 0 → v < 2 ^ 32 → Summing p e x i (m + 1) (s + w * v)
   summing-more {w} {v} l a b c =
@@ -37,8 +37,8 @@ module _ {p : ℕ} (M : Modulus p) {e : ℕ} (h : e ≤ 4) {x : List ℕ} {i m s
       }
 
   -- a sum that is made so fits
-  pub summing-fits : s < 2 ^ 64
-  summing-fits =
+  pub summing-fits : Modulus p → e ≤ 4 → s < 2 ^ 64
+  summing-fits M h =
       let d : m + (e - m) ≡ e = omega (arith, S .done) in
       let front = rw d at (total-front 1 m (e - m) (weight p (from 1 e))) in
       omega (
@@ -51,11 +51,7 @@ module _ {p : ℕ} (M : Modulus p) {e : ℕ} (h : e ≤ 4) {x : List ℕ} {i m s
   unfolding weighted
   summing-end l = let q : m ≡ e = omega (arith, S .done) in rw q at (S .is)
 
--- the sum before reducing is that of the shares after place 0
-pub sum-before : (p t : ℕ) (x : List ℕ) → weighted p (from 1 (t + 1)) (λ k. at 0 x (0 + k)) ≡ secretSum p t x
+-- the sum of the shares from the first on
+pub sum-from-first : (p t : ℕ) (x : List ℕ) → weighted p (from 1 (t + 1)) (λ k. at 0 x (0 + k)) ≡ secretSum p t x
 unfolding secretSum
-sum-before p t x = rw add-one (weighted-cong p (from 1 (suc t)) _ (at 0 x) (λ z _. rw zero-add))
-
-pub sum-secret : {p : ℕ} → Modulus p → (t : ℕ) → t ≤ 3 → (x : List ℕ) → secretSum p t x % p ≡ secret p t x
-unfolding secretSum
-sum-secret M t h x = secret-weighted M t (omega arith) x
+sum-from-first p t x = rw add-one (weighted-cong p (from 1 (suc t)) _ (at 0 x) (λ z _. rw zero-add))

@@ -28,7 +28,7 @@ fn wide(x: u32) -> u64
 
 // The sum before reducing, of the shares of parties i + 1 to i + e: each times its weight below p, added. The weights are 2p + 1 at most, taken
 // together, so the sum of any 32-bit shares fits.
-pub fn weighted_sum(p: u32, e: usize, row: Row, i: usize) -> u64
+fn weighted_sum(p: u32, e: usize, row: Row, i: usize) -> u64
     requires { ⌜ Fields.Modulus p × (e ≤ 4) × (i + e ≤ 7) ⌝ }
     ensures { λ r. ⌜ r ≡ Sharing.weighted p (from 1 e) (λ x. Sharing.at 0 (row .shares) (i + x)) ⌝ }
 {

@@ -1,4 +1,4 @@
-//! Sums from a generator of their own, so that the other generated cases stay as they are.
+//! Sums from a generator of their own, so that the other generated cases do not depend on them.
 
 use super::generated::{damage, near, random_sharing, value_near_limit};
 use super::generator::Generator;

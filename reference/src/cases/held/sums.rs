@@ -2,6 +2,7 @@
 
 use super::Held;
 use crate::case::{Case, SumCase};
+use crate::field::FIELDS;
 
 pub fn all() -> Vec<Held> {
     let mut all = accepted();
@@ -20,8 +21,7 @@ fn sum((field, parties, threshold): (u32, u32, u32), row: &[u32]) -> Case {
 }
 
 fn accepted() -> Vec<Held> {
-    let all_last = "all shares p - 1, in each field";
-    vec![
+    let mut all = vec![
         ("sum 2 times 7 and 12 times 9", sum((0, 3, 1), &[7, 9, 11])),
         (
             "shares past t + 1 are not summed",
@@ -29,15 +29,20 @@ fn accepted() -> Vec<Held> {
         ),
         ("all shares 0", sum((0, 3, 1), &[0; 3])),
         ("2p, so the secret is 0", sum((0, 3, 1), &[7, 1, 8])),
-        (all_last, sum((0, 3, 1), &[12; 3])),
-        (all_last, sum((1, 6, 2), &[250; 6])),
-        (all_last, sum((2, 7, 3), &[65_520; 7])),
-        (all_last, sum((3, 4, 1), &[2_147_483_646; 4])),
-        (
-            "the largest sum of all",
-            sum((3, 7, 3), &[2_147_483_646; 7]),
-        ),
-    ]
+    ];
+    let settings = (0..4).flat_map(|field| [(field, 3, 1), (field, 5, 2), (field, 7, 3)]);
+    all.extend(settings.map(last_shares));
+    all
+}
+
+fn last_shares((field, parties, threshold): (u32, u32, u32)) -> Held {
+    let says = match (field, threshold) {
+        (3, 3) => "the largest sum of all",
+        _ => "all shares p - 1, in each field with each threshold",
+    };
+    let last = FIELDS[field as usize].modulus - 1;
+    let row = vec![last; parties as usize];
+    (says, sum((field, parties, threshold), &row))
 }
 
 /// Rows in which, of the first t + 1 shares, one is 1 and the others are 0.

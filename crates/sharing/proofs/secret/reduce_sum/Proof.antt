@@ -2,7 +2,6 @@
 -- Assumes nothing.
 use Prim.Native.Nat.{_%_, _<_}
 use borrow.Author.Needs.{needs}
-use mathlib.Core.Path.{ap}
 use native.Mathlib.Nat.{mod-lt}
 use native.Mathlib.Omega.{arith}
 use Rattle.sharing.proofs.secret.reduce_sum.Statement.{statement}

@@ -20,12 +20,12 @@ loop-holds c = summing-start _ _ _ _
 loop-again : tie.Need-loop-again Inv-loop μ-loop
 loop-again c =
     let s = c .before .before .before .before .before in
-    summing-more (s .before .pre .0) (s .before .pre .1) (s .loop .inv) (omega arith) (c .before .before .wide .ensures .0 ∙ c .before .before .before .weight .ensures .0)
+    summing-more (s .loop .inv) (omega arith) (c .before .before .wide .ensures .0 ∙ c .before .before .before .weight .ensures .0)
     (c .wide2 .ensures .0) (c .wide2 .ensures .1)
 
 -- the sum with this turn's term fits, and so does the term
 fits : (c : tie.After-wide2 Inv-loop μ-loop) → c .before .before .before .before .before .loop .sum + c .before .before .wide .result * c .wide2 .result < 2 ^ 64
-fits c = let s = c .before .before .before .before .before .before in summing-fits (s .pre .0) (s .pre .1) (loop-again c)
+fits c = let s = c .before .before .before .before .before .before in summing-fits (loop-again c) (s .pre .0) (s .pre .1)
 
 mul-sum : tie.Need-mul-sum Inv-loop μ-loop
 mul-sum c = omega (arith, fits c)
@@ -34,7 +34,7 @@ add-sum : tie.Need-add-sum Inv-loop μ-loop
 add-sum c = omega (arith, fits c)
 
 returns : tie.Need-returns Inv-loop μ-loop
-returns c = let s = c .before .before in summing-end (s .pre .0) (s .pre .1) (c .before .loop .inv) (omega arith)
+returns c = summing-end (c .before .loop .inv) (omega arith)
 
 pub weighted-sum-spec : {M : Type 1} → statement M
 weighted-sum-spec =
