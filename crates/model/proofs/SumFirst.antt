@@ -60,6 +60,21 @@ weights-added : (p e : ℕ) → total (from 1 e) (weight p (from 1 e)) ≡ total
 unfolding weights
 weights-added p e = total-map (weight p (from 1 e)) (from 1 e)
 
+-- the hand sheet: the weights and the first shares, product by product
+by-products : (p t : ℕ) (x : List ℕ) → secretSum p t x ≡ dot (weights p (suc t)) (map (at 0 x) (from 1 (suc t)))
+unfolding secretSum weighted weights
+by-products p t x = total-dot _ _ (from 1 (suc t))
+
+hand-sheet : (f : ℕ) → InUse f → (others : List ℕ) → HandSheet (modulus f) others
+unfolding dot from
+hand-sheet f h others =
+    let w = hand-weights f h in
+    record {
+      two = λ a b. by-products _ 1 _ ∙ rw (w .0) (omega arith);
+      three = λ a b c. by-products _ 2 _ ∙ rw (w .1) (omega arith);
+      four = λ a b c d. by-products _ 3 _ ∙ rw (w .2) (omega arith);
+    }
+
 -- Together the weights among parties 1 to e are at most 2p + 1. So the sum of their products with any 32-bit numbers fits 64 bits.
 pub weights-total : {p : ℕ} → Modulus p → (e : ℕ) → e ≤ 4 → total (from 1 e) (weight p (from 1 e)) ≤ 2 * p + 1
 unfolding total
@@ -113,21 +128,6 @@ module _ {p n t : ℕ} (M : Modulus p) (P : Parties n t) where
         row-fits = λ x B. omega (arith, sum-most x B);
         reduced-last = sum-secret M t (omega arith);
       }
-
--- the hand sheet: the weights and the first shares, product by product
-by-products : (p t : ℕ) (x : List ℕ) → secretSum p t x ≡ dot (weights p (suc t)) (map (at 0 x) (from 1 (suc t)))
-unfolding secretSum weighted weights
-by-products p t x = total-dot _ _ (from 1 (suc t))
-
-hand-sheet : (f : ℕ) → InUse f → (others : List ℕ) → HandSheet (modulus f) others
-unfolding dot from
-hand-sheet f h others =
-    let w = hand-weights f h in
-    record {
-      two = λ a b. by-products _ 1 _ ∙ rw (w .0) (omega arith);
-      three = λ a b c. by-products _ 2 _ ∙ rw (w .1) (omega arith);
-      four = λ a b c d. by-products _ 3 _ ∙ rw (w .2) (omega arith);
-    }
 
 -- the entry
 module _ (f n t : ℕ) (xs : List ℕ) where
