@@ -60,9 +60,9 @@ static void recover(void)
 static void sum(void)
 {
     static const uint32_t last[7] = {2147483646, 2147483646, 2147483646, 2147483646, 2147483646, 2147483646, 2147483646};
-    static uint64_t sum;
+    static uint64_t added;
     top = (uintptr_t)__builtin_frame_address(0);
-    answer = jundrethol_sum(3, 7, 3, &sum, last, 7);
+    answer = jundrethol_sum(3, 7, 3, &added, last, 7);
 }
 
 static void encode(void)

@@ -9,10 +9,10 @@ ghost use Rattle.entries.specs.Words.{wordOf, wordsOf};
 use field::coding;
 use report::number::line_end;
 use report::number::list;
-use report::number::long;
 use report::number::number;
 use report::number::put;
 use report::number::signed;
+use report::number::wide_number;
 
 fn main() {
     let mut input = [0u8; 131072];
@@ -188,6 +188,6 @@ fn sum_list(s: &[u8], row: &[u32])
     list(b" row", row);
     let answer = sharing::sum(word(s, 1), word(s, 2), word(s, 3), row);
     number(b" : number ", answer.number);
-    long(b" sum ", answer.sum);
+    wide_number(b" sum ", answer.sum);
     line_end();
 }

@@ -102,7 +102,7 @@ module _ (f n t : ℕ) (xs : List ℕ) where
   unfolding fieldTests settingTests firstFailed sumTests recoverTests
   sum-number lent e = rw (eq-eqb lent t e) refl
 
-  pub sum-accepted : sumNumber f n t xs ≡ 0 → Recovers f n t xs t
+  sum-accepted : sumNumber f n t xs ≡ 0 → Recovers f n t xs t
   sum-accepted e = recover-accepted f n t xs t (sym (sum-number t refl) ∙ e)
 
 -- reconstruction, of any row
@@ -121,9 +121,10 @@ module _ {p n t : ℕ} (M : Modulus p) (P : Parties n t) where
       share-most zero = zero-le
       share-most (suc j) = omega (arith, below-any (positive M) B j)
 
-  reconstructs-at : Reconstructs p n t
+  reconstructs-at : Reconstructs p t
   reconstructs-at =
       record {
+        products = λ x. unfold secretSum weighted in refl;
         at-most-four = rw length-from (omega arith);
         row-fits = λ x B. omega (arith, sum-most x B);
         reduced-last = sum-secret M t (omega arith);
@@ -171,7 +172,7 @@ module _ (f n t : ℕ) (xs : List ℕ) where
   sum-entry : SumEntry f n t xs
   sum-entry =
       record {
-        takes = λ e. (sum-accepted f n t xs e .shares, sum-accepted f n t xs e .below);
+        takes = λ e. let A = sum-accepted f n t xs e in (A .field, A .people, A .shares, A .below, A .sharing);
         gives = sum-gives;
         refused = sum-refused f n t xs;
         sum-fits = omega (arith, entry-most);

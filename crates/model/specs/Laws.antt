@@ -1,4 +1,4 @@
--- The theorems of this crate, all of them, in the order of their files. Each is closed: it names all that it is claimed of.
+-- The theorems of this crate, all but the computed Cases, in the order of their files. Each is closed: it names all that it is claimed of.
 -- Assumes nothing.
 use Rattle.model.specs.Fields.{FieldsTested, PartiesTested, EveryField}
 use Rattle.model.specs.Coding.{EveryCoding}

@@ -11,16 +11,16 @@ pub fn line_end() {
 }
 
 pub fn number(text: &[u8], n: u32) {
-    long(text, n as u64);
+    wide_number(text, n as u64);
 }
 
 // A number that counts or is a place.
 pub fn count(text: &[u8], n: usize) {
-    long(text, n as u64);
+    wide_number(text, n as u64);
 }
 
 // A number of 64 bits.
-pub fn long(text: &[u8], n: u64) {
+pub fn wide_number(text: &[u8], n: u64) {
     put(text);
     io::print_decimal(STDOUT_FILENO, n);
 }
