@@ -138,16 +138,6 @@ no-run-outgrows s log revealed log-long shown-long =
     let o = accepted-other s (length log) (length revealed) log-long shown-long in
     (λ e. o (N (inr (omega arith))) .0 e, λ e. o (N (inr (omega arith))) .1 e)
 
--- The checks keep both buffers from being outgrown, in every state that a run passes through.
-abbrev Within : Supply → Spent → Type 0
-Within u s = (s .counts .openings * u .parties ≤ u .log) × (s .counts .revealed ≤ u .shown)
-
-within : {S : Setting} {u : Supply} {input : List Row} {d : Deal} {xs ys : List Line} {s : State} {vs ws : List ℕ} → Passes S u input d xs ys s vs ws
-    → Within u (s .spent)
-unfolding start nothingSpent finish pay
-within begins = omega arith
-within {S} (goes {x} {s = s} p e) = let P = check-passed _ (cost S (x .command)) (s .spent) e in (P .room, P .shown)
-
 pub all-held : AllHeld
 unfolding run outcome
 all-held s log revealed = go (isRun (run s log revealed .number)) refl

@@ -11,11 +11,13 @@ use Rattle.algebra.proofs.Lists.{all-below}
 use Rattle.algebra.proofs.Tests.{and-left, and-right}
 use Rattle.model.specs.Fields.{fieldTests, settingTests}
 use Rattle.model.specs.Sharing.{Sharing}
+use Rattle.model.specs.Presence.{PermittedSet, permittedSet}
 use Rattle.model.specs.Steps.{Setting, Row, Triple}
 use Rattle.model.specs.Script.{Line, Script, accepted, refused, inRanges, scriptOf}
-use Rattle.model.specs.Sheet.{headerOf, largestIn, settingOf, limits, impliedLength, inputIn, dealIn, all, maskRows, tripleRows, dealRows, secrets, spell, goodMask, goodTriple, aSharing, headerTests, limitTests, lengthTests, rowTests, sheetTests, sheetNumber, Permitted}
+use Rattle.model.specs.Sheet.{Header, headerOf, largestIn, settingWith, settingOf, limits, impliedLength, inputIn, dealIn, all, maskRows, tripleRows, dealRows, secrets, spell, goodMask, goodTriple, aSharing, headerTests, presentTests, limitTests, lengthTests, rowTests, sheetTests, sheetNumber, Permitted}
 use Rattle.model.specs.Run.{supplyOf}
 use Rattle.model.proofs.Fields.{fields}
+use Rattle.model.proofs.Presence.{presence}
 use Rattle.model.proofs.Lengths.{header-field, header-numbered, header-read}
 use Rattle.model.proofs.Trying.{numbered, holding, all-hold, front-passes}
 use Rattle.model.proofs.Sharings.{test-exact}
@@ -43,31 +45,53 @@ pub all-right : {A : Type 0} {P : A → Type 0} (xs ys : List A) → All P (xs +
 all-right [] ys ps = ps
 all-right (x ∷ xs) ys (one p ps) = all-right xs ys ps
 
+-- who is present decides nothing of secrets, masks and triples
+same-secrets : (b c : ℕ) (h : Header) (xs : List Row) → secrets (settingWith b h) xs ≡ secrets (settingWith c h) xs
+unfolding secrets
+same-secrets b c h [] = refl
+same-secrets b c h (x ∷ xs) = rw (same-secrets b c h xs)
+
+pub same-mask : (b c : ℕ) (h : Header) (m : List Row) → goodMask (settingWith b h) m ≡ goodMask (settingWith c h) m
+unfolding goodMask
+same-mask b c h m = rw (same-secrets b c h m)
+
+pub same-triple : (b c : ℕ) (h : Header) (x : Triple) → goodTriple (settingWith b h) x ≡ goodTriple (settingWith c h) x
+unfolding goodTriple
+same-triple b c h x = refl
+
+pub same-masks : (b c : ℕ) (h : Header) {ms : List (List Row)} → All (λ m. T (goodMask (settingWith b h) m)) ms → All (λ m. T (goodMask (settingWith c h) m)) ms
+same-masks b c h = all-map (λ m g. rw (same-mask c b h m) g)
+
+pub same-triples : (b c : ℕ) (h : Header) {xs : List Triple} → All (λ x. T (goodTriple (settingWith b h) x)) xs → All (λ x. T (goodTriple (settingWith c h) x)) xs
+same-triples b c h = all-map (λ x g. rw (same-triple c b h x) g)
+
 -- the tests of a sheet, passed
-pub record Sound (s : List ℕ) : Type 0 where
+pub record Sound (present : ℕ) (s : List ℕ) : Type 0 where
   pub permitted : Permitted (headerOf s)
+  pub permitted-set : PermittedSet (headerOf s .n) (headerOf s .t) present
   pub size : length s ≡ impliedLength (headerOf s)
   pub sharings : All (Sharing (settingOf (headerOf s) .p) (headerOf s .n) (headerOf s .t)) (inputIn (headerOf s) s ++ dealRows (dealIn (headerOf s) s))
-  pub masks : All (λ m. T (goodMask (settingOf (headerOf s)) m)) (dealIn (headerOf s) s .masks)
-  pub triples : All (λ x. T (goodTriple (settingOf (headerOf s)) x)) (dealIn (headerOf s) s .triples)
+  pub masks : All (λ m. T (goodMask (settingWith present (headerOf s)) m)) (dealIn (headerOf s) s .masks)
+  pub triples : All (λ x. T (goodTriple (settingWith present (headerOf s)) x)) (dealIn (headerOf s) s .triples)
 
-pub sound : (s : List ℕ) → sheetNumber s ≡ 0 → Sound s
-unfolding sheetTests headerTests fieldTests settingTests limitTests lengthTests rowTests holding numbered
-sound s e =
+pub sound : (present : ℕ) (s : List ℕ) → sheetNumber present s ≡ 0 → Sound present s
+unfolding sheetTests headerTests fieldTests settingTests presentTests limitTests lengthTests rowTests holding numbered
+sound present s e =
     let h = headerOf s in
-    let S = settingOf h in
+    let S = settingWith present h in
     let d = dealIn h s in
     let rows = inputIn h s ++ dealRows d in
     record {
       permitted = permitted;
+      permitted-set = presence .tested (h .n) (h .t) present .0 (and-left (permittedSet (h .n) (h .t) present) true (passed-at 12));
       size = eqb→eq (length s) (impliedLength h) (and-left (eqb (length s) (impliedLength h)) true (and-right (limits h) _ (passed-at 4)));
       sharings = all-map (λ x t. test-exact (fields (h .field) (permitted .field) .modulus-is) (permitted .people) x .0 t) (all-each (aSharing S) rows (and-left (all (aSharing S) rows) true (passed-at 6)));
       masks = all-each (goodMask S) (d .masks) (and-left (all (goodMask S) (d .masks)) true (passed-at 7));
       triples = all-each (goodTriple S) (d .triples) (and-left (all (goodTriple S) (d .triples)) true (passed-at 8));
     }
   where
-    passed-at : (number : ℕ) → T (holding number (sheetTests s))
-    passed-at number = all-hold number (sheetTests s) tt e
+    passed-at : (number : ℕ) → T (holding number (sheetTests present s))
+    passed-at number = all-hold number (sheetTests present s) tt e
 
     permitted : Permitted (headerOf s)
     permitted =
@@ -101,9 +125,9 @@ triples-ok S (x ∷ xs) (one a (one b (one c r))) (one g gs) =
     one (record { a-sharing = a; b-sharing = b; c-sharing = c; good = eqb→eq _ _ g }) (triples-ok S xs r gs)
 
 -- a sheet that is not refused gives its run what the run is worked with
-pub given : (s : List ℕ) → Sound s → (log shown : ℕ)
-    → Given (settingOf (headerOf s)) (largestIn (headerOf s)) (supplyOf (headerOf s) log shown) (inputIn (headerOf s) s) (dealIn (headerOf s) s)
-given s Q log shown =
+pub given : (present : ℕ) (s : List ℕ) → Sound present s → (log shown : ℕ)
+    → Given (settingWith present (headerOf s)) (largestIn (headerOf s)) (supplyOf (headerOf s) log shown) (inputIn (headerOf s) s) (dealIn (headerOf s) s)
+given present s Q log shown =
     let h = headerOf s in
     let d = dealIn h s in
     let A = shape-in h s in
@@ -115,9 +139,9 @@ given s Q log shown =
       inputs-many = A .inputs;
       formed =
           record {
-            masks-ok = masks-ok (settingOf h) (d .masks) (all-left (maskRows (d .masks)) (tripleRows (d .triples)) rows) (Q .masks) (A .each);
+            masks-ok = masks-ok (settingWith present h) (d .masks) (all-left (maskRows (d .masks)) (tripleRows (d .triples)) rows) (Q .masks) (A .each);
             masks-many = A .masks;
-            triples-ok = triples-ok (settingOf h) (d .triples) (all-right (maskRows (d .masks)) (tripleRows (d .triples)) rows) (Q .triples);
+            triples-ok = triples-ok (settingWith present h) (d .triples) (all-right (maskRows (d .masks)) (tripleRows (d .triples)) rows) (Q .triples);
             triples-many = A .triples;
           };
     }

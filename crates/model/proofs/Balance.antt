@@ -56,8 +56,8 @@ lines S u input end (x ∷ xs) s e =
 
 pub balance : Balance
 unfolding run outcome stopOf runScript
-balance s log revealed = either (sheetNumber s) _ _ (script (sheetScript s)) (balanced-start _)
+balance present s log revealed = either (sheetNumber present s) _ _ (script (sheetScript s)) (balanced-start _)
   where
-    script : (x : Script) → Balanced (runScript (headerOf s) s (length log) (length revealed) x .state .spent .counts)
+    script : (x : Script) → Balanced (runScript present (headerOf s) s (length log) (length revealed) x .state .spent .counts)
     script (refused number place) = balanced-start _
     script (accepted xs end) = lines _ _ _ end xs (start _) (balanced-start _)

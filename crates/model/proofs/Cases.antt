@@ -6,15 +6,16 @@ use Rattle.algebra.specs.Lists.{allBelow, from, total, onto, sameList}
 use Rattle.algebra.specs.Rows.{tab, row}
 use Rattle.model.specs.Fields.{modulus, bits, largestK, inUse, inverse, inversePowerOf2, parties, fieldTests, settingTests}
 use Rattle.model.specs.Refusing.{firstFailed}
+use Rattle.model.specs.Presence.{bit, presentIn, absentIn, everyone, permittedSet, openers}
 use Rattle.model.specs.Coding.{inRange, code, readBack}
-use Rattle.model.specs.Sharing.{eval, share, newton, reciprocal, slope, interpolate, recover, secret, isSharing, ratio, weight, weighted, secretSum}
+use Rattle.model.specs.Sharing.{eval, share, newton, reciprocal, slope, interpolate, recover, secret, valueFrom, isSharing, ratio, weight, weighted, secretSum}
 use Rattle.model.specs.Entries.{shareTests, recoverTests, sumTests, encodeTests, decodeTests, shareLeft, recoverValue, recoverLeft, sumValue, encodeValue, decodeValue}
 use Rattle.model.specs.Bytes.{number, rowAt}
 use Rattle.model.specs.Trees.{spelled, comparisonFrom, comparison, remainder, floor, sign, over as overStep, blocks}
-use Rattle.model.specs.Steps.{plus, minus, times, constant, value, byRows}
+use Rattle.model.specs.Steps.{plus, minus, times, constant, value, recorded, byRows}
 use Rattle.model.specs.Script.{byteSays, allPass, numberAt, readingAt, scriptFrom, scriptOf}
 use Rattle.model.specs.Costs.{costBy}
-use Rattle.model.specs.Sheet.{headerOf, headerSize, maskBits, largestIn, limits, impliedLength, scriptIn, rowsAt, masksFrom, triplesFrom, inputIn, dealIn, all, maskRows, tripleRows, spell, secrets, goodMask, goodTriple, headerTests, limitTests, lengthTests, rowTests, sheetTests, bytesOf, shareBytes}
+use Rattle.model.specs.Sheet.{headerOf, headerSize, maskBits, largestIn, limits, impliedLength, scriptIn, rowsAt, masksFrom, triplesFrom, inputIn, dealIn, all, maskRows, tripleRows, spell, secrets, goodMask, goodTriple, headerTests, presentTests, limitTests, lengthTests, rowTests, sheetTests, bytesOf, shareBytes}
 use Rattle.model.specs.Commands.{throughLines, registersFrom, command}
 use Rattle.model.specs.Run.{allSet, marked, check, pay, runLines, nothingSpent, start, written, outcome, runScript, stopOf, run}
 use Rattle.model.specs.Calls.{isTEXTDATA, alone, plain, quoted, field, isEnd, fields, readLine, isDigit, allDigits, decimalFrom, time, lasting, call, fourFields, lineAt, lineNumber, taken, imported}
@@ -27,7 +28,7 @@ use Rattle.model.specs.MaskCases.{maskCases}
 use Rattle.model.specs.EntryCases.{entryCases}
 use Rattle.model.specs.CallCases.{callCases}
 use Rattle.model.specs.ColumnCases.{columnCases}
-use Rattle.model.specs.Cases.{checks, partsSeen, Cases}
+use Rattle.model.specs.Cases.{checks, partsSeen, choices, weightsSeen, Cases}
 use Rattle.model.proofs.Laws.{laws}
 
 after : {A B : Type 0} → A → B → B
@@ -46,21 +47,21 @@ unfolding from onto number modulus bits inUse fieldTests settingTests parties he
 columns-hold = after calls-hold refl
 
 pub scripts-hold : Hold scriptCases
-unfolding byRows add sub mul allBelow from onto tab row modulus bits largestK inUse fieldTests settingTests inverse parties eval share newton reciprocal slope interpolate recover secret sameList isSharing number rowAt byteSays allPass numberAt readingAt scriptFrom scriptOf costBy headerOf headerSize maskBits largestIn limits impliedLength scriptIn rowsAt masksFrom triplesFrom inputIn dealIn all maskRows tripleRows spell secrets goodMask goodTriple firstFailed headerTests limitTests lengthTests rowTests sheetTests bytesOf shareBytes allSet marked check pay command throughLines runLines nothingSpent start written outcome runScript stopOf run registersSeen seen scriptCases
+unfolding byRows add sub mul allBelow from onto tab row modulus bits largestK inUse fieldTests settingTests inverse parties bit presentIn everyone permittedSet eval share newton reciprocal slope interpolate recover secret sameList isSharing number rowAt byteSays allPass numberAt readingAt scriptFrom scriptOf costBy headerOf headerSize maskBits largestIn limits impliedLength scriptIn rowsAt masksFrom triplesFrom inputIn dealIn all maskRows tripleRows spell secrets goodMask goodTriple firstFailed headerTests presentTests limitTests lengthTests rowTests sheetTests bytesOf shareBytes allSet marked check pay command throughLines runLines nothingSpent start written outcome runScript stopOf run registersSeen seen scriptCases
 scripts-hold = after columns-hold refl
 
 pub sheets-hold : Hold sheetCases
-unfolding byRows add sub mul allBelow from onto tab row modulus bits largestK inUse fieldTests settingTests inverse parties eval share newton reciprocal slope interpolate recover secret sameList isSharing number rowAt byteSays allPass numberAt readingAt scriptFrom scriptOf costBy headerOf headerSize maskBits largestIn limits impliedLength scriptIn rowsAt masksFrom triplesFrom inputIn dealIn all maskRows tripleRows spell secrets goodMask goodTriple firstFailed headerTests limitTests lengthTests rowTests sheetTests bytesOf shareBytes allSet marked check pay command throughLines runLines nothingSpent start written outcome runScript stopOf run registersSeen seen sheetCases
+unfolding byRows add sub mul allBelow from onto tab row modulus bits largestK inUse fieldTests settingTests inverse parties bit presentIn everyone permittedSet eval share newton reciprocal slope interpolate recover secret sameList isSharing number rowAt byteSays allPass numberAt readingAt scriptFrom scriptOf costBy headerOf headerSize maskBits largestIn limits impliedLength scriptIn rowsAt masksFrom triplesFrom inputIn dealIn all maskRows tripleRows spell secrets goodMask goodTriple firstFailed headerTests presentTests limitTests lengthTests rowTests sheetTests bytesOf shareBytes allSet marked check pay command throughLines runLines nothingSpent start written outcome runScript stopOf run registersSeen seen sheetCases
 sheets-hold = after scripts-hold refl
 
 pub runs-hold : Hold runCases
-unfolding add sub mul allBelow from onto tab row modulus bits largestK inUse fieldTests settingTests inverse inversePowerOf2 parties eval share newton reciprocal slope interpolate recover secret sameList isSharing number rowAt plus minus times constant value byRows comparisonFrom comparison spelled remainder floor sign overStep blocks byteSays allPass numberAt readingAt scriptFrom scriptOf costBy headerOf headerSize maskBits largestIn limits impliedLength scriptIn rowsAt masksFrom triplesFrom inputIn dealIn all maskRows tripleRows spell secrets goodMask goodTriple firstFailed headerTests limitTests lengthTests rowTests sheetTests bytesOf shareBytes allSet marked check pay registersFrom command throughLines runLines nothingSpent start written outcome runScript stopOf run registersSeen seen runCases
+unfolding add sub mul allBelow from onto tab row modulus bits largestK inUse fieldTests settingTests inverse inversePowerOf2 parties bit presentIn absentIn everyone permittedSet openers eval share newton reciprocal slope interpolate recover secret valueFrom sameList isSharing number rowAt plus minus times constant value recorded byRows comparisonFrom comparison spelled remainder floor sign overStep blocks byteSays allPass numberAt readingAt scriptFrom scriptOf costBy headerOf headerSize maskBits largestIn limits impliedLength scriptIn rowsAt masksFrom triplesFrom inputIn dealIn all maskRows tripleRows spell secrets goodMask goodTriple firstFailed headerTests presentTests limitTests lengthTests rowTests sheetTests bytesOf shareBytes allSet marked check pay registersFrom command throughLines runLines nothingSpent start written outcome runScript stopOf run registersSeen seen runCases
 runs-hold = after sheets-hold refl
 
 pub masked-hold : Hold maskCases
-unfolding add sub mul allBelow from onto tab row modulus bits largestK inUse fieldTests settingTests inverse inversePowerOf2 parties eval share newton reciprocal slope interpolate recover secret sameList isSharing number rowAt plus minus times constant value byRows comparisonFrom comparison spelled remainder floor sign overStep blocks byteSays allPass numberAt readingAt scriptFrom scriptOf costBy headerOf headerSize maskBits largestIn limits impliedLength scriptIn rowsAt masksFrom triplesFrom inputIn dealIn all maskRows tripleRows spell secrets goodMask goodTriple firstFailed headerTests limitTests lengthTests rowTests sheetTests bytesOf shareBytes allSet marked check pay registersFrom command throughLines runLines nothingSpent start written outcome runScript stopOf run registersSeen seen maskCases
+unfolding add sub mul allBelow from onto tab row modulus bits largestK inUse fieldTests settingTests inverse inversePowerOf2 parties bit presentIn absentIn everyone permittedSet openers eval share newton reciprocal slope interpolate recover secret valueFrom sameList isSharing number rowAt plus minus times constant value recorded byRows comparisonFrom comparison spelled remainder floor sign overStep blocks byteSays allPass numberAt readingAt scriptFrom scriptOf costBy headerOf headerSize maskBits largestIn limits impliedLength scriptIn rowsAt masksFrom triplesFrom inputIn dealIn all maskRows tripleRows spell secrets goodMask goodTriple firstFailed headerTests presentTests limitTests lengthTests rowTests sheetTests bytesOf shareBytes allSet marked check pay registersFrom command throughLines runLines nothingSpent start written outcome runScript stopOf run registersSeen seen maskCases
 masked-hold = after runs-hold refl
 
 pub cases : Cases
-unfolding tab bits number headerOf headerSize maskBits bytesOf shareBytes sharesFrom regrouped transposed columnForm partOf sharesIn partsSeen from onto firstFailed allSet check checks isTEXTDATA alone plain quoted field isEnd fields readLine isDigit allDigits decimalFrom time lasting call fourFields lineAt lineNumber taken imported
-cases = record { sheets = sheets-hold; scripts = scripts-hold; runs = runs-hold; masked = masked-hold; order = refl; entries = entries-hold; calls = calls-hold; columns = columns-hold; parts = refl; values = refl; plain-names = refl; quoted-names = refl }
+unfolding add sub mul total modulus inverse reciprocal ratio weight choices weightsSeen tab bits number headerOf headerSize maskBits bytesOf shareBytes sharesFrom regrouped transposed columnForm partOf sharesIn partsSeen from onto firstFailed allSet check checks isTEXTDATA alone plain quoted field isEnd fields readLine isDigit allDigits decimalFrom time lasting call fourFields lineAt lineNumber taken imported
+cases = record { sheets = sheets-hold; scripts = scripts-hold; runs = runs-hold; masked = masked-hold; order = refl; entries = entries-hold; calls = calls-hold; columns = columns-hold; parts = refl; weights = refl; values = refl; plain-names = refl; quoted-names = refl }

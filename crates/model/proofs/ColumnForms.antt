@@ -14,11 +14,13 @@ use Rattle.algebra.specs.Lists.{none, one, onto}
 use Rattle.algebra.proofs.Tests.{and-left}
 use Rattle.model.specs.Fields.{fieldTests, settingTests}
 use Rattle.model.specs.Refusing.{firstFailed, given}
-use Rattle.model.specs.Sheet.{Header, headerOf, headerSize, settingOf, inputsAt, impliedLength, rowCount, inputIn, dealIn, headerTests, limitTests, lengthTests, rowTests, sheetTests, sheetNumber}
+use Rattle.model.specs.Presence.{everyone}
+use Rattle.model.specs.Sheet.{Header, headerOf, headerSize, settingOf, inputsAt, impliedLength, rowCount, inputIn, dealIn, headerTests, limitTests, lengthTests, rowTests, sheetNumber}
 use Rattle.model.specs.Columns.{transposed, columnForm, sheetForm, partLength, shapeTests, outputTests, turnTests, turnNumber, outputLeft}
 use Rattle.model.specs.ColumnForms.{IsColumnForm, Shaped, Forms, InParts, TurnNumbers, Leaves, ColumnForms}
 use Rattle.model.proofs.Trying.{given-done, given-refused, numbered, holding, upTo, appended, failed-in, number-most, first-decide, others-decide, all-hold, front-passes, others-pass}
 use Rattle.model.proofs.Lengths.{header-numbered, header-read}
+use Rattle.model.proofs.PresentTests.{later, without-set, everyone-permitted}
 use Rattle.model.proofs.SheetDeal.{implied}
 use Rattle.model.proofs.Transposing.{Transposes, transposes, transposes-back, transposed-is, undone}
 use Rattle.model.proofs.ColumnParts.{number-front, one-less, parts}
@@ -189,11 +191,16 @@ module _ (s out : List ℕ) where
   abbrev rest : List (Bool × ℕ)
   rest = rowTests (settingOf (headerOf s)) (inputIn (headerOf s) s) (dealIn (headerOf s) s)
 
-  sheet-number : sheetNumber s ≡ given (firstFailed (shapeTests s)) (firstFailed rest) (firstFailed (shapeTests s))
-  unfolding sheetTests shapeTests
+  abbrev all : ℕ
+  all = everyone (headerOf s .n)
+
+  sheet-number : sheetNumber all s ≡ given (firstFailed (shapeTests s)) (firstFailed rest) (firstFailed (shapeTests s))
+  unfolding shapeTests
   sheet-number =
       let h = headerOf s in
-      ap firstFailed (sym (append-assoc (headerTests s) (limitTests h ++ lengthTests h s) rest
+      without-set all s (everyone-permitted s)
+      ∙ sym (appended (headerTests s) (later all s) (header-numbered s))
+      ∙ ap firstFailed (sym (append-assoc (headerTests s) (limitTests h ++ lengthTests h s) rest
       ∙ ap (λ (x : List (Bool × ℕ)). headerTests s ++ x) (append-assoc (limitTests h) (lengthTests h s) rest)))
       ∙ appended (shapeTests s) rest (shape-numbered s)
 
@@ -201,14 +208,14 @@ module _ (s out : List ℕ) where
   unfolding fieldTests settingTests headerTests limitTests lengthTests shapeTests upTo
   shape-most = number-most 4 (shapeTests s) tt
 
-  as-sheet : sheetNumber s ≤ 4 → firstFailed (shapeTests s) ≡ sheetNumber s
+  as-sheet : sheetNumber all s ≤ 4 → firstFailed (shapeTests s) ≡ sheetNumber all s
   as-sheet = go (firstFailed (shapeTests s)) sheet-number
     where
       go : (n : ℕ) {r : ℕ} → r ≡ given n (firstFailed rest) n → r ≤ 4 → n ≡ r
       go zero e l = rows-past _ _ _ (subst (λ (z : ℕ). z ≤ 4) e l) ∙ sym e
       go (suc n) e l = sym e
 
-  rows-refused : 5 ≤ sheetNumber s → sheetNumber s ≤ 8 → Shaped s
+  rows-refused : 5 ≤ sheetNumber all s → sheetNumber all s ≤ 8 → Shaped s
   rows-refused = go (firstFailed (shapeTests s)) sheet-number shape-most
     where
       go : (n : ℕ) {r : ℕ} → r ≡ given n (firstFailed rest) n → n ≤ 4 → 5 ≤ r → r ≤ 8 → n ≡ 0

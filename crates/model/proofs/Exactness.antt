@@ -2,7 +2,7 @@
 -- Assumes nothing.
 use mathlib.Core.Path.{_≡_, refl, sym, ap, _∙_}
 use mathlib.Core.List.{List, [], _∷_, _++_, append-assoc}
-use Prim.Native.Nat.{ℕ, zero, suc, _+_, _*_}
+use Prim.Native.Nat.{ℕ, zero, suc, _+_, _*_, _≤_}
 use native.Mathlib.Nat.{add-zero, zero-add, add-assoc}
 use native.Mathlib.Omega.{arith}
 use lib.ListN.{replicate}
@@ -13,13 +13,12 @@ use Rattle.model.specs.Refusing as Refusing
 use Rattle.model.specs.Counts.{Counts, added}
 use Rattle.model.specs.Costs.{cost}
 use Rattle.model.specs.Sheet.{secrets}
-use Rattle.model.specs.Run.{Supply, State, check, pay, finish, nothingSpent, start, runLines, runScript, stopOf}
+use Rattle.model.specs.Run.{Spent, Supply, State, check, pay, finish, nothingSpent, start, runLines, runScript, stopOf}
 use Rattle.model.specs.Plain.{plainly, reveals}
 use Rattle.model.specs.Results.{Does}
 use Rattle.model.specs.Exactness.{Passes, begins, goes, Right, sumOf, sums, Counted, at-end, at-line, Stopped, Exactness}
 use Rattle.model.proofs.Each.{each-length}
 use Rattle.model.proofs.Written.{length-written}
-use Rattle.model.proofs.Sharings.{length-sharing}
 use Rattle.model.proofs.StepLaws.{run-end, run-line}
 use Rattle.model.proofs.Counts.{same-counts}
 use Rattle.model.proofs.Checks.{Passed, check-passed}
@@ -27,7 +26,7 @@ use Rattle.model.proofs.Courses.{shareds-at}
 use Rattle.model.proofs.Held.{Holds, holds-start, Given, none-shared, finished}
 use Rattle.model.proofs.Balance.{Balanced, balanced-start, balanced-more}
 use Rattle.model.proofs.Performed.{does}
-use Rattle.model.proofs.Acceptance.{sound, all-map, given, InRange, lines-ok}
+use Rattle.model.proofs.Acceptance.{sound, given, InRange, lines-ok}
 
 all-head : {A : Type 0} {P : A → Type 0} {x : A} {xs : List A} → All P (x ∷ xs) → P x
 all-head (one p ps) = p
@@ -126,7 +125,7 @@ module _ {S : Setting} {K : ℕ} {u : Supply} {input : List Row} {d : Deal} (G :
         masks-left = q .holds .used .masks;
         triples-left = q .holds .used .triples;
         opened = q .holds .opens;
-        numbers = length-written S (G .parties .most) (all-map (λ x. length-sharing (G .field .modulus-is) (G .parties)) (q .holds .rows)) ∙ ap (λ (o : ℕ). S .n * o) (q .holds .opens);
+        numbers = length-written S _ ∙ ap (λ (o : ℕ). S .n * o) (q .holds .opens);
         shown = q .holds .shows;
       }
 
@@ -142,11 +141,21 @@ module _ {S : Setting} {K : ℕ} {u : Supply} {input : List Row} {d : Deal} (G :
       either zero e go = go (sym e)
       either (suc k) e go = record { left = y ∷ ys; plain = _; revealed = _; passes = p; stops = at-line e (λ z. omega arith) refl }
 
+-- The checks keep both buffers from being outgrown, in every state that a run passes through.
+abbrev pub Within : Supply → Spent → Type 0
+Within u s = (s .counts .openings * u .parties ≤ u .log) × (s .counts .revealed ≤ u .shown)
+
+pub within : {S : Setting} {u : Supply} {input : List Row} {d : Deal} {xs ys : List Line} {s : State} {vs ws : List ℕ} → Passes S u input d xs ys s vs ws
+    → Within u (s .spent)
+unfolding start nothingSpent finish pay
+within begins = omega arith
+within {S} (goes {x} {s = s} p e) = let P = check-passed _ (cost S (x .command)) (s .spent) e in (P .room, P .shown)
+
 pub exactness : Exactness
 unfolding stopOf runScript
-exactness sheet log shown A =
-    let Q = sound sheet (A .number) in
-    let G = given sheet Q log shown in
+exactness present sheet log shown A =
+    let Q = sound present sheet (A .number) in
+    let G = given present sheet Q log shown in
     let ok = lines-ok _ _ _ (A .lines) (A .end) (A .script) in
     record {
       does = λ y ys s vs ws p e. next-does G (A .lines) ok p e;

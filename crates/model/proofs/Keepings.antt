@@ -11,16 +11,16 @@ use Rattle.algebra.specs.Lists.{Below}
 use Rattle.algebra.proofs.Ring.{ring, mod-ring, reduced, sub-lt, mul-lt}
 use Rattle.algebra.proofs.Lists.{below-head, below-tail}
 use Rattle.model.specs.Fields.{Modulus, Parties}
-use Rattle.model.specs.Sharing.{Sharing}
+use Rattle.model.specs.Sharing.{Sharing, valueFrom}
 use Rattle.model.specs.Shamir.{Group, Agree}
 use Rattle.model.specs.Steps.{Setting, Row, Triple, plus, minus, value, spelled}
 use Rattle.model.specs.Secrecy.{Alike, end}
 use Rattle.model.specs.Secrecy as Secrecy
-use Rattle.model.proofs.Polynomials.{positive}
+use Rattle.model.proofs.Polynomials.{positive, eval-lt}
 use Rattle.model.proofs.Sharings.{secret-lt, keeping, sharing-keeping, secret-keeping, keeping-agrees, unique}
 use Rattle.model.proofs.Bits.{bitsOf, length-bits, below-bits}
 use Rattle.model.proofs.Each.{no-more, and, each-length}
-use Rattle.model.proofs.Shared.{Shared, Shareds, TripleOk, shared-minus, opens}
+use Rattle.model.proofs.Shared.{Shared, Shareds, TripleOk, shared-minus, value-secret, opens}
 use Rattle.model.proofs.Pairs.{paired-spelled}
 use Rattle.model.proofs.Agreeing.{agree-sym, agree-trans, alike-each, agree-plus, agree-minus, agree-keep}
 use Rattle.model.proofs.Determined.{MaskOk, shared-masked}
@@ -76,15 +76,14 @@ module _ (S : Setting) (M : Modulus (S .p)) (P : Parties (S .n) (S .t)) where
   IsSharing x = Sharing (S .p) (S .n) (S .t) x
 
   of : {x : Row} → IsSharing x → Shared S (value S x) x
-  unfolding value
-  of s = record { sharing = s; is = refl }
+  of s = record { sharing = s; is = sym (value-secret S M P s) }
 
   pub shared-lt : {v : ℕ} {x : Row} → Shared S v x → v < S .p
   shared-lt {x = x} X = rw (X .is) at (secret-lt M P x)
 
   value-lt : (x : Row) → value S x < S .p
-  unfolding value
-  value-lt x = secret-lt M P x
+  unfolding value valueFrom
+  value-lt x = eval-lt (positive M) _ 0
 
   -- a value taken from another twice, and a sum's other part
   less-twice : (v : ℕ) {c : ℕ} → c < S .p → sub (S .p) v (sub (S .p) v c) ≡ c
@@ -153,7 +152,7 @@ module _ (S : Setting) (M : Modulus (S .p)) (P : Parties (S .n) (S .t)) where
         let A = keep-shared (t .a) {v = a} (sub-lt (value S x′) (value S (minus S x (t .a))) h) in
         let B = keep-shared (t .b) {v = b} (sub-lt (value S y′) (value S (minus S y (t .b))) h) in
         let C = keep-shared (t .c) (mul-lt a b h) in
-        let c-is : Shared S (mul (S .p) (value S (t .a)) (value S (t .b))) (t .c) = unfold value in record { sharing = ok .c-sharing; is = ok .good } in
+        let c-is : Shared S (mul (S .p) (value S (t .a)) (value S (t .b))) (t .c) = record { sharing = ok .c-sharing; is = rw (value-secret S M P (ok .a-sharing), value-secret S M P (ok .b-sharing)) (ok .good) } in
         record {
           ok =
               record {

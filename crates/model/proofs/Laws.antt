@@ -3,6 +3,7 @@
 use Rattle.model.specs.Laws.{Laws}
 use Rattle.model.proofs.Fields.{fields-tested, parties-tested, every-field}
 use Rattle.model.proofs.Coding.{every-coding}
+use Rattle.model.proofs.Presence.{presence}
 use Rattle.model.proofs.WholeScript.{whole-script}
 use Rattle.model.proofs.StepLaws.{every-column, every-step, every-command, run-by-commands}
 use Rattle.model.proofs.Dividing.{one-division, one-begun}
@@ -18,6 +19,7 @@ use Rattle.model.proofs.Balance.{balance}
 use Rattle.model.proofs.Refusals.{numbers, nothing-run}
 use Rattle.model.proofs.Secrecy.{secrecy}
 use Rattle.model.proofs.RealRuns.{real-runs}
+use Rattle.model.proofs.PresentRuns.{present-runs}
 use Rattle.model.proofs.CallReading.{reads}
 use Rattle.model.proofs.CallLists.{call-lists}
 use Rattle.model.proofs.ColumnForms.{every-form}
@@ -29,6 +31,7 @@ laws =
       parties-tested = parties-tested;
       every-field = every-field;
       every-coding = every-coding;
+      presence = presence;
       whole-script = whole-script;
       every-column = every-column;
       every-step = every-step;
@@ -49,6 +52,7 @@ laws =
       nothing-run = nothing-run;
       secrecy = secrecy;
       real-runs = real-runs;
+      present-runs = present-runs;
       reads = reads;
       call-lists = call-lists;
       column-forms = every-form;

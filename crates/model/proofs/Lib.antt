@@ -1,6 +1,7 @@
 pub mod Fields
 pub mod Coding
 pub mod Polynomials
+pub mod Presence
 pub mod Sharings
 pub mod Weights
 pub mod Extrapolation
@@ -47,6 +48,7 @@ pub mod Formulas
 pub mod Performed
 pub mod Exactness
 pub mod Refusals
+pub mod PresentTests
 pub mod Agreeing
 pub mod Partners
 pub mod Keepings
@@ -55,6 +57,7 @@ pub mod Veil
 pub mod MadeSheets
 pub mod Secrecy
 pub mod RealRuns
+pub mod PresentRuns
 pub mod CallBytes
 pub mod CallDigits
 pub mod CallFound

@@ -13,9 +13,10 @@ use Rattle.algebra.proofs.Rows.{length-tab, getD-tab, take-row, row-at, row-aga
 use Rattle.algebra.proofs.Tests.{and-both}
 use Rattle.model.specs.Fields.{Modulus, Parties}
 use Rattle.model.specs.Sharing.{share, Sharing}
+use Rattle.model.specs.Presence.{everyone, PermittedSet}
 use Rattle.model.specs.Steps.{Row, Deal}
 use Rattle.model.specs.Script.{Line, accepted, scriptOf}
-use Rattle.model.specs.Sheet.{Header, largestIn, settingOf, impliedLength, all, dealRows, goodMask, goodTriple, sharesBelow, aSharing, headerTests, limitTests, lengthTests, rowTests, sheetTests, sheetNumber, Permitted, sheetOf}
+use Rattle.model.specs.Sheet.{Header, largestIn, settingWith, settingOf, impliedLength, all, dealRows, goodMask, goodTriple, sharesBelow, aSharing, headerTests, presentTests, limitTests, lengthTests, rowTests, sheetTests, sheetNumber, Permitted, sheetOf}
 use Rattle.model.specs.Making.{SheetRow, FitsHeader, Says}
 use Rattle.model.specs.Run.{start, runLines, outcome, supplyOf, runScript, sheetScript, stopOf, run}
 use Rattle.model.specs.Secrecy.{WellFormed}
@@ -26,11 +27,13 @@ use Rattle.model.proofs.Polynomials.{positive, eval-lt}
 use Rattle.model.proofs.Sharings.{test-exact}
 use Rattle.model.proofs.Making.{making}
 use Rattle.model.proofs.Taking.{all-append}
-use Rattle.model.proofs.Acceptance.{all-map}
+use Rattle.model.proofs.Presence.{presence}
+use Rattle.model.proofs.Acceptance.{all-map, same-masks, same-triples}
 
 -- what an accepted sheet says of its header, script and input
-pub record Facts (h : Header) (script : List ℕ) (input : List Row) (xs : List Line) (end : ℕ) : Type 0 where
+pub record Facts (present : ℕ) (h : Header) (script : List ℕ) (input : List Row) (xs : List Line) (end : ℕ) : Type 0 where
   pub permitted : Permitted h
+  pub permitted-set : PermittedSet (h .n) (h .t) present
   pub script-is : scriptOf (settingOf h .p) (largestIn h) script ≡ accepted xs end
   pub script-length : length script ≡ h .script
   pub sharings : All (Sharing (settingOf h .p) (h .n) (h .t)) input
@@ -61,7 +64,8 @@ module _ {p n t : ℕ} (M : Modulus p) (P : Parties n t) where
       all-below p (take n x) .1
       (rw (s .is, take-row n _) (record { at = λ i k. let l : i < n = rw length-tab at k in rw (getD-tab n _ i l) (eval-lt (positive M) (s .poly) (suc i)) }))
 
-module _ {h : Header} {script : List ℕ} {input : List Row} {xs : List Line} {end : ℕ} (F : Facts h script input xs end) {d : Deal} (W : WellFormed h d) where
+module _ {present : ℕ} {h : Header} {script : List ℕ} {input : List Row} {xs : List Line} {end : ℕ} (F : Facts present h script input xs end) {d : Deal}
+    (W : WellFormed h d) where
   P : Parties (h .n) (h .t)
   P = F .permitted .people
 
@@ -93,18 +97,20 @@ module _ {h : Header} {script : List ℕ} {input : List Row} {xs : List Line} {e
   pub says : Says (sheetOf h script input d) h script input d
   says = making .reading-undoes h script input d parts
 
-  pub not-refused : sheetNumber (sheetOf h script input d) ≡ 0
-  unfolding sheetTests limitTests lengthTests rowTests
+  pub not-refused : sheetNumber present (sheetOf h script input d) ≡ 0
+  unfolding sheetTests presentTests limitTests lengthTests rowTests
   not-refused =
-      let S = settingOf h in
+      let S = settingWith present h in
       both-pass (headerTests (sheetOf h script input d)) _ (header-passes (sheetOf h script input d) header-good)
       (rw (says .header-is, says .input-is, says .deal-is, says .length-is)
       (all-pass
+      (one (presence .tested (h .n) (h .t) present .1 (F .permitted-set))
       (one (F .permitted .counts)
       (one (eqb-refl (impliedLength h))
       (one (each-all (sharesBelow S) (all-map (low-shares M P) rows-are))
       (one (each-all (aSharing S) (all-map (λ x s. test-exact M P x .1 s) rows-are))
-      (one (each-all (goodMask S) (W .good-masks)) (one (each-all (goodTriple S) (W .good-triples)) none))))))))
+      (one (each-all (goodMask S) (same-masks (everyone (h .n)) present h (W .good-masks)))
+      (one (each-all (goodTriple S) (same-triples (everyone (h .n)) present h (W .good-triples))) none)))))))))
     where
       header-good : HeaderRead (sheetOf h script input d)
       header-good =
@@ -117,13 +123,13 @@ module _ {h : Header} {script : List ℕ} {input : List Row} {xs : List Line} {e
   pub script-read : sheetScript (sheetOf h script input d) ≡ accepted xs end
   script-read = rw (says .header-is, says .script-is) (F .script-is)
 
-  pub made-stop : (log shown : ℕ) → stopOf (sheetOf h script input d) log shown
-      ≡ runLines (settingOf h) (supplyOf h log shown) input end xs (start d)
+  pub made-stop : (log shown : ℕ) → stopOf present (sheetOf h script input d) log shown
+      ≡ runLines (settingWith present h) (supplyOf h log shown) input end xs (start d)
   unfolding stopOf runScript
   made-stop log shown =
       rw (not-refused, script-read, says .header-is, says .input-is, says .deal-is)
 
-  pub made-run : (a b : List ℕ) → run (sheetOf h script input d) a b
-      ≡ outcome (settingOf h) a b (runLines (settingOf h) (supplyOf h (length a) (length b)) input end xs (start d))
+  pub made-run : (a b : List ℕ) → run present (sheetOf h script input d) a b
+      ≡ outcome (settingWith present h) a b (runLines (settingWith present h) (supplyOf h (length a) (length b)) input end xs (start d))
   unfolding run
   made-run a b = rw (says .header-is, made-stop (length a) (length b))

@@ -11,7 +11,7 @@ use lib.Seq.{getD-set-same}
 use Rattle.algebra.specs.Ring.{add, mul}
 use Rattle.algebra.specs.Lists.{from}
 use Rattle.algebra.proofs.Ring.{ring, mod-ring, reduced}
-use Rattle.model.specs.Steps.{Setting, Row, Deal, constant, value, byRows}
+use Rattle.model.specs.Steps.{Setting, Row, Deal, constant, byRows}
 use Rattle.model.specs.Script.{Command, LOAD, CONST, ADD, SUB, SCALE, MUL, MOD, TRUNC, LTZ, OVER, BLOCKS, REVEAL, BITLT, inRanges, outputs}
 use Rattle.model.specs.Costs.{costBy, cost}
 use Rattle.model.specs.Commands.{command}
@@ -25,6 +25,7 @@ use Rattle.model.proofs.Sharings.{secret-lt}
 use Rattle.model.proofs.Formulas.{field-exact}
 use Rattle.model.proofs.Operands.{operands}
 use Rattle.model.proofs.Checks.{Passed}
+use Rattle.model.proofs.Shared.{value-secret}
 use Rattle.model.proofs.Courses.{shareds-at, length-values}
 use Rattle.model.proofs.Marks.{marked-kept, marked-set}
 use Rattle.model.proofs.Outputs.{agrees}
@@ -101,7 +102,7 @@ module _ {S : Setting} {K : ℕ} {u : Supply} {input : List Row} {d₀ : Deal} (
       let R = operands (S .p) K (OVER d a k v) ok in
       equals (Exceeds (S .p) k v) (read-is a) (left (OVER d a k v) ok Q refl refl)
       (E .exceeds-by k v _ (omega arith) (omega arith) (omega arith) (below a))
-  leaves (REVEAL a) ok Q = (refl, (unfold value in refl))
+  leaves (REVEAL a) ok Q = (refl, rw (value-secret S (G .field .modulus-is) (G .parties) (shareds-at (none-shared G) (H .shareds) a .sharing)))
   leaves (BITLT d b w v) ok Q =
       let R = operands (S .p) K (BITLT d b w v) ok in
       rw (values-read b w, left (BITLT d b w v) ok Q refl refl)

@@ -61,12 +61,12 @@ header-bytes h f n t =
     (below-append (bytesOf 2 (h .masks)) _ (number-bytes 2 (h .masks))
     (below-append (bytesOf 2 (h .triples)) _ (number-bytes 2 (h .triples)) (number-bytes 2 (h .script)))))))
 
-module _ (s : List ℕ) (A : Accepted s) where
-  F : Facts (headerOf s) (scriptIn (headerOf s) s) (inputIn (headerOf s) s) (A .lines) (A .end)
-  F = facts s (A .lines) (A .end) (A .number) (A .script)
+module _ (present : ℕ) (s : List ℕ) (A : Accepted present s) where
+  F : Facts present (headerOf s) (scriptIn (headerOf s) s) (inputIn (headerOf s) s) (A .lines) (A .end)
+  F = facts present s (A .lines) (A .end) (A .number) (A .script)
 
   own-formed : WellFormed (headerOf s) (dealIn (headerOf s) s)
-  own-formed = well-formed (headerOf s) 0 0 (F .permitted .field) (own-deal s (A .lines) (A .end) (A .number) (A .script) 0 0)
+  own-formed = well-formed present (headerOf s) 0 0 (F .permitted .field) (own-deal present s (A .lines) (A .end) (A .number) (A .script) 0 0)
 
   made-bytes : (d : Deal) → Below 256 s → Below 256 (madeOn s d)
   unfolding sheetOf scriptIn
@@ -77,7 +77,7 @@ module _ (s : List ℕ) (A : Accepted s) where
       (below-append (scriptIn h s) _ (below-take (h .script) (drop (headerSize h) s) (below-drop (headerSize h) s b))
       (below-append (rowBytes (h .n) (inputIn h s)) _ (row-bytes (h .n) (inputIn h s)) (row-bytes (h .n) _)))
 
-  real : (d : Deal) → WellFormed (headerOf s) d → RealRun s d
+  real : (d : Deal) → WellFormed (headerOf s) d → RealRun present s d
   real d W =
       record {
         is-accepted = record { lines = A .lines; end = A .end; number = not-refused F W; script = script-read F W };
@@ -86,12 +86,12 @@ module _ (s : List ℕ) (A : Accepted s) where
       }
 
   own-says : Says s (headerOf s) (scriptIn (headerOf s) s) (inputIn (headerOf s) s) (dealIn (headerOf s) s)
-  own-says = record { length-is = sound s (A .number) .size; header-is = refl; script-is = refl; input-is = refl; deal-is = refl }
+  own-says = record { length-is = sound present s (A .number) .size; header-is = refl; script-is = refl; input-is = refl; deal-is = refl }
 
 pub real-runs : RealRuns
 real-runs =
     record {
       made = real;
       own-deal = own-formed;
-      own-run = λ s A b. making .making-undoes s b _ _ _ _ (own-says s A) (omega (arith, sound s (A .number) .permitted .people)) .1;
+      own-run = λ present s A b. making .making-undoes s b _ _ _ _ (own-says present s A) (omega (arith, sound present s (A .number) .permitted .people)) .1;
     }

@@ -14,18 +14,24 @@ use Rattle.model.specs.Steps.{Setting, Row}
 use Rattle.model.specs.Script.{Line, Script, accepted, refused, scriptOf}
 use Rattle.model.specs.Refusing.{given}
 use Rattle.model.specs.Costs.{Cost, cost}
-use Rattle.model.specs.Sheet.{headerOf, headerTests, limitTests, lengthTests, rowTests, sheetTests, sheetNumber, settingOf}
+use Rattle.model.specs.Sheet.{headerOf, headerTests, presentTests, limitTests, lengthTests, rowTests, sheetTests, sheetNumber, settingWith}
 use Rattle.model.specs.Run.{Spent, State, Supply, Stop, check, finish, runLines, nothingSpent, start, outcome, refusedInput, written, runScript, sheetScript, stopOf, run}
 use Rattle.model.specs.Exactness.{Accepted}
-use Rattle.model.specs.Refusals.{isRun, From, Numbered, Numbers, Untouched, NothingRun}
-use Rattle.model.proofs.Trying.{upTo, number-most, failed-in}
+use Rattle.model.specs.Refusals.{isRun, From, OfSheet, Numbered, Numbers, Untouched, NothingRun}
+use Rattle.model.proofs.Trying.{failed-in}
 use Rattle.model.proofs.StepLaws.{run-end, run-line}
 use Rattle.model.proofs.Readings.{every-script}
 
--- 1 to 8, or 0
-sheet-low : (s : List ℕ) → sheetNumber s ≤ 8
-unfolding sheetTests headerTests fieldTests settingTests limitTests lengthTests rowTests upTo
-sheet-low s = number-most 8 (sheetTests s) tt
+-- 1 to 8, 12, or 0
+of-sheet : (present : ℕ) (s : List ℕ) → (sheetNumber present s ≢ 0) → OfSheet (sheetNumber present s)
+unfolding sheetTests headerTests fieldTests settingTests presentTests limitTests lengthTests rowTests
+of-sheet present s =
+    failed-in (λ k. (k ≢ 0) → OfSheet k) (λ z. absurd (z refl))
+    (one (low 1 (omega arith)) (one (low 2 (omega arith)) (one (low 3 (omega arith)) (one (λ _. inr refl) (one (low 4 (omega arith)) (one (low 4 (omega arith))
+    (one (low 5 (omega arith)) (one (low 6 (omega arith)) (one (low 7 (omega arith)) (one (low 8 (omega arith)) none))))))))))
+  where
+    low : (k : ℕ) → From 1 8 k → (k ≢ 0) → OfSheet k
+    low k h _ = inl h
 
 -- a script is refused with 9 to 11
 abbrev Late : Script → Type 0
@@ -60,25 +66,25 @@ lines S u input end (x ∷ xs) s =
     (either OfState (check u (cost S (x .command)) (s .spent)) _ _ (λ _. lines S u input end xs (finish S input (x .command) s)) (checked u _ _))
 
 -- How a sheet's stop comes about.
-data Way (s : List ℕ) (x : Stop) : Type 0 where
-  by-sheet : sheetNumber s ≢ 0 → x ≡ refusedInput (sheetNumber s) 0 → Way s x
-  by-script : {number place : ℕ} → sheetNumber s ≡ 0 → sheetScript s ≡ refused number place → x ≡ refusedInput number place → Way s x
-  by-run : Accepted s → OfState (x .number) → Way s x
+data Way (present : ℕ) (s : List ℕ) (x : Stop) : Type 0 where
+  by-sheet : sheetNumber present s ≢ 0 → x ≡ refusedInput (sheetNumber present s) 0 → Way present s x
+  by-script : {number place : ℕ} → sheetNumber present s ≡ 0 → sheetScript s ≡ refused number place → x ≡ refusedInput number place → Way present s x
+  by-run : Accepted present s → OfState (x .number) → Way present s x
 
-way : (s : List ℕ) (log shown : ℕ) → Way s (stopOf s log shown)
+way : (present : ℕ) (s : List ℕ) (log shown : ℕ) → Way present s (stopOf present s log shown)
 unfolding stopOf runScript
-way s log shown = go (sheetNumber s) refl
+way present s log shown = go (sheetNumber present s) refl
   where
-    script : sheetNumber s ≡ 0 → (x : Script) → sheetScript s ≡ x → Way s (runScript (headerOf s) s log shown x)
+    script : sheetNumber present s ≡ 0 → (x : Script) → sheetScript s ≡ x → Way present s (runScript present (headerOf s) s log shown x)
     script e (refused number place) q = by-script e q refl
     script e (accepted xs end) q = by-run (record { lines = xs; end = end; number = e; script = q }) (lines _ _ _ end xs _)
 
-    go : (n : ℕ) → sheetNumber s ≡ n → Way s (given n (runScript (headerOf s) s log shown (sheetScript s)) (refusedInput n 0))
+    go : (n : ℕ) → sheetNumber present s ≡ n → Way present s (given n (runScript present (headerOf s) s log shown (sheetScript s)) (refusedInput n 0))
     go zero e = script e (sheetScript s) refl
     go (suc n) e = by-sheet (λ z. omega arith) (rw e)
 
 -- a script is not both refused and accepted
-not-late : {s : List ℕ} {number place : ℕ} → sheetScript s ≡ refused number place → Accepted s → ⊥
+not-late : {present : ℕ} {s : List ℕ} {number place : ℕ} → sheetScript s ≡ refused number place → Accepted present s → ⊥
 not-late e a = apart (sym e ∙ a .script)
   where
     told-apart : Script → Type 0
@@ -115,10 +121,13 @@ zero-or : (number : ℕ) → OfState number → (number ≡ 0) ⊎ From 21 26 nu
 zero-or zero h = inl refl
 zero-or (suc number) h = inr (h (λ e. omega arith))
 
+sheet-input : {number : ℕ} → OfSheet number → From 1 12 number
+sheet-input = ⊎-elim (λ h. omega arith) (λ e. omega arith)
+
 -- of a sheet that is not accepted, and of one that is
-of-input : {s : List ℕ} {number place : ℕ} → (Accepted s → ⊥) → From 1 11 number → From 1 8 number ↔ (sheetNumber s ≢ 0)
-    → (From 1 8 number → (number ≡ sheetNumber s) × (place ≡ 0))
-    → ((c i : ℕ) → sheetNumber s ≡ 0 → sheetScript s ≡ refused c i → (number ≡ c) × (place ≡ i) × From 9 11 c) → Numbered s number place
+of-input : {present : ℕ} {s : List ℕ} {number place : ℕ} → (Accepted present s → ⊥) → From 1 12 number → OfSheet number ↔ (sheetNumber present s ≢ 0)
+    → (OfSheet number → (number ≡ sheetNumber present s) × (place ≡ 0))
+    → ((c i : ℕ) → sheetNumber present s ≡ 0 → sheetScript s ≡ refused c i → (number ≡ c) × (place ≡ i) × From 9 11 c) → Numbered present s number place
 of-input fails h first at script =
     record {
       input = (λ _. fails, λ _. h);
@@ -129,41 +138,42 @@ of-input fails h first at script =
       script = script;
     }
 
-of-state : {s : List ℕ} {number place : ℕ} → Accepted s → OfState number → Numbered s number place
+of-state : {present : ℕ} {s : List ℕ} {number place : ℕ} → Accepted present s → OfState number → Numbered present s number place
 of-state {number = number} a h =
     record {
       input = (λ z. absurd (both z (zero-or number h)), λ fails. absurd (fails a));
       state = (λ _. a, λ _. zero-or number h);
       is-run = (λ _. a, λ _. runs number h);
-      sheet-first = (λ z. absurd (both (omega arith) (zero-or number h)), λ fails. absurd (fails (a .number)));
-      sheet-place = λ z. absurd (both (omega arith) (zero-or number h));
+      sheet-first = (λ z. absurd (both (sheet-input z) (zero-or number h)), λ fails. absurd (fails (a .number)));
+      sheet-place = λ z. absurd (both (sheet-input z) (zero-or number h));
       script = λ c i z q. absurd (not-late q a);
     }
   where
-    both : From 1 11 number → (number ≡ 0) ⊎ From 21 26 number → ⊥
+    both : From 1 12 number → (number ≡ 0) ⊎ From 21 26 number → ⊥
     both z = ⊎-elim (λ e. omega arith) (λ e. omega arith)
 
-numbered : (s : List ℕ) (x : Stop) → Way s x → Numbered s (x .number) (x .place)
-numbered s x (by-sheet fails e) =
-    let n : x .number ≡ sheetNumber s = ap (λ (x : Stop). x .number) e in
-    let h : From 1 8 (sheetNumber s) = omega (arith, sheet-low s) in
-    of-input (λ a. fails (a .number)) (omega arith) (λ _. fails, λ _. rw n h) (λ _. (n, ap (λ (x : Stop). x .place) e))
+numbered : (present : ℕ) (s : List ℕ) (x : Stop) → Way present s x → Numbered present s (x .number) (x .place)
+numbered present s x (by-sheet fails e) =
+    let n : x .number ≡ sheetNumber present s = ap (λ (x : Stop). x .number) e in
+    let h : OfSheet (x .number) = rw n (of-sheet present s fails) in
+    of-input (λ a. fails (a .number)) (sheet-input h) (λ _. fails, λ _. h) (λ _. (n, ap (λ (x : Stop). x .place) e))
     (λ c i z q. absurd (fails z))
-numbered s x (by-script z q e) =
+numbered present s x (by-script z q e) =
     let n = ap (λ (x : Stop). x .number) e in
     let h = script-late _ _ _ q in
-    of-input (not-late q) (omega arith) (λ l. absurd (omega arith), λ fails. absurd (fails z)) (λ l. absurd (omega arith))
+    let late : OfSheet (x .number) → ⊥ = ⊎-elim (λ l. omega arith) (λ l. omega arith) in
+    of-input (not-late q) (omega arith) (λ l. absurd (late l), λ fails. absurd (fails z)) (λ l. absurd (late l))
     (λ c i z′ q′.
     let r = same-refusal (sym q ∙ q′) in
     (n ∙ r .0, ap (λ (x : Stop). x .place) e ∙ r .1, script-late _ _ _ q′))
-numbered s x (by-run a h) = of-state a h
+numbered present s x (by-run a h) = of-state a h
 
 pub numbers : Numbers
 unfolding run outcome
 numbers =
     record {
-      of-stop = λ s log shown. numbered s _ (way s log shown);
-      of-run = λ s log revealed. numbered s _ (way s (length log) (length revealed));
+      of-stop = λ present s log shown. numbered present s _ (way present s log shown);
+      of-run = λ present s log revealed. numbered present s _ (way present s (length log) (length revealed));
     }
 
 -- what a refused input leaves
@@ -178,11 +188,12 @@ kept S log revealed number place =
       counts = refl;
     }
 
-untouched : (S : Setting) (log revealed s : List ℕ) (x : Stop) → (Accepted s → ⊥) → Way s x → Untouched log revealed (outcome S log revealed x)
-untouched S log revealed s x fails (by-sheet k e) = rw e (kept S log revealed _ _)
-untouched S log revealed s x fails (by-script z q e) = rw e (kept S log revealed _ _)
-untouched S log revealed s x fails (by-run a h) = absurd (fails a)
+untouched : (S : Setting) (present : ℕ) (log revealed s : List ℕ) (x : Stop) → (Accepted present s → ⊥) → Way present s x → Untouched log revealed (outcome S log revealed x)
+untouched S present log revealed s x fails (by-sheet k e) = rw e (kept S log revealed _ _)
+untouched S present log revealed s x fails (by-script z q e) = rw e (kept S log revealed _ _)
+untouched S present log revealed s x fails (by-run a h) = absurd (fails a)
 
 pub nothing-run : NothingRun
 unfolding run
-nothing-run s log revealed fails = untouched (settingOf (headerOf s)) log revealed s _ fails (way s (length log) (length revealed))
+nothing-run present s log revealed fails =
+    untouched (settingWith present (headerOf s)) present log revealed s _ fails (way present s (length log) (length revealed))

@@ -22,6 +22,7 @@ shamir-at {p} {n} {t} M P =
       constant = λ v k. Sharings.sharing-constant M P k;
       constant-secret = λ v k. Sharings.secret-constant M P k;
       fixed = λ xs x y Q s r. Sharings.fixed M P xs Q s r;
+      any-parties = λ xs x G s. Sharings.any-parties M P xs G s;
       hidden = λ set x v G s k. Sharings.one-kept M P G x s k;
     }
 

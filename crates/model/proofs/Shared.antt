@@ -12,13 +12,15 @@ use Rattle.algebra.specs.Rows.{tab, row}
 use Rattle.algebra.proofs.Ring.{ring, mod-ring, mul-lt}
 use Rattle.model.specs.Fields.{Modulus, Parties}
 use Rattle.model.specs.Sharing.{Sharing, secret}
+use Rattle.model.specs.Presence.{openers}
 use Rattle.model.specs.Deal.{noRow}
 use Rattle.model.specs.Trees as Trees
 use Rattle.model.specs.Steps.{Setting, Row, Triple, plus, minus, times, constant, value, beaver, chosen, spelled}
 use Rattle.model.specs.Sheet.{secrets}
 use Rattle.model.specs.Plain.{lessStep}
 use Rattle.model.proofs.Polynomials.{positive}
-use Rattle.model.proofs.Sharings.{add-linear, sub-linear, mul-linear, sharing-on, secret-on, sharing-constant, secret-constant}
+use Rattle.model.proofs.Sharings.{add-linear, sub-linear, mul-linear, sharing-on, secret-on, sharing-constant, secret-constant, any-parties}
+use Rattle.model.proofs.Presence.{openers-group}
 use Rattle.model.proofs.Unmasking.{spelt}
 use Rattle.model.proofs.Each.{Each, no-more, and}
 
@@ -69,9 +71,13 @@ module _ (S : Setting) (M : Modulus (S .p)) (P : Parties (S .n) (S .t)) where
   pub shared-zero : Shared S 0 (constant S 0)
   shared-zero = shared-constant (positive M)
 
-  pub opens : {v : ℕ} {x : Row} → Shared S v x → value S x ≡ v
+  -- what an opening of a sharing gives, whoever is present
+  pub value-secret : {x : Row} → Sharing (S .p) (S .n) (S .t) x → value S x ≡ secret (S .p) (S .t) x
   unfolding value
-  opens a = a .is
+  value-secret s = any-parties M P (openers (S .n) (S .t) (S .present)) (openers-group (S .n) (S .t) (S .present) (omega arith)) s
+
+  pub opens : {v : ℕ} {x : Row} → Shared S v x → value S x ≡ v
+  opens a = value-secret (a .sharing) ∙ a .is
 
   -- Beaver's identity
   pub shared-beaver : (v w : ℕ) (t : Triple) → TripleOk S t → {a1 b1 : ℕ} → a1 ≡ sub (S .p) v (secret (S .p) (S .t) (t .a))

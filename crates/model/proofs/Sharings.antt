@@ -16,7 +16,7 @@ use Rattle.algebra.proofs.Lists.{below-nil, below-cons, in-from, length-from}
 use Rattle.algebra.proofs.Rows.{length-tab, getD-tab, length-row, row-at, row-ext, row-below}
 use Rattle.algebra.proofs.Tests.{and-left, and-right, and-both}
 use Rattle.model.specs.Fields.{Modulus, Parties}
-use Rattle.model.specs.Sharing.{eval, share, Sharing, interpolate, at, recover, secret, isSharing}
+use Rattle.model.specs.Sharing.{eval, share, Sharing, interpolate, at, recover, secret, valueFrom, isSharing}
 use Rattle.model.specs.Shamir.{Points, Group, Agree, OneKept, Closed}
 use Rattle.model.proofs.Polynomials.{Nodes, eval-lt, interpolate-cong, length-interpolate, below-interpolate, positive, interpolate-eval, interpolate-only, same-values}
 
@@ -33,7 +33,7 @@ nodes-from k (suc m) b = (
   nodes-from (suc k) m (omega arith),
 )
 
-nodes-distinct : (xs : List ℕ) → Distinct xs → ((z : ℕ) → In z xs → z < 8) → Nodes xs
+pub nodes-distinct : (xs : List ℕ) → Distinct xs → ((z : ℕ) → In z xs → z < 8) → Nodes xs
 nodes-distinct [] d b = tt
 nodes-distinct (x ∷ xs) d b = (
   λ z m. record { left = b x (here refl); right = b z (there m); differ = d .0 z m },
@@ -215,6 +215,15 @@ module _ {p n t : ℕ} (M : Modulus p) (P : Parties n t) where
   value-at : {x : List ℕ} (s : Sharing p n t x) (z : ℕ) → z ≤ n → at (secret p t x) x z ≡ eval p (s .poly) z
   value-at s zero k = secret-sharing s
   value-at {x} s (suc j) k = value s (secret p t x) (suc j) (record { least = omega arith; most = k })
+
+  -- any t + 1 parties find the secret
+  pub any-parties : (xs : List ℕ) {x : List ℕ} → Group n (suc t) xs → Sharing p n t x → valueFrom p xs x ≡ secret p t x
+  unfolding valueFrom
+  any-parties xs G s =
+      ap (λ (q : List ℕ). eval p q 0)
+      (found s xs (nodes-distinct xs (G .points .distinct) (λ z m. let l = G .points .most z m in omega arith)) (G .points .count)
+      (λ z m. record { least = G .least z m; most = G .points .most z m }))
+      ∙ sym (secret-sharing s)
 
   -- it is fixed by t + 1 of them
   pub fixed : (xs : List ℕ) {x y : List ℕ} → Points n (suc t) xs → Sharing p n t x → Sharing p n t y

@@ -2,19 +2,21 @@
 -- Assumes nothing.
 use mathlib.Core.Path.{_≡_, refl}
 use mathlib.Core.List.{List, [], _∷_, _++_, append-assoc}
-use Prim.Native.Nat.{_*_, _≤_}
+use Prim.Native.Nat.{_*_}
 use native.Mathlib.Omega.{arith}
 use lib.ListN.{length, length-append}
-use lib.Seq.{length-take-le}
-use Rattle.algebra.specs.Lists.{All, none, one}
-use Rattle.model.specs.Steps.{Setting, Row}
+use Rattle.algebra.proofs.Rows.{length-tab}
+use Rattle.model.specs.Steps.{Setting, Row, recorded}
 use Rattle.model.specs.Run.{written}
-use Rattle.model.proofs.Taking.{Seven}
 
-pub length-written : (S : Setting) {xs : List Row} → S .n ≤ 7 → All Seven xs → length (written S xs) ≡ S .n * length xs
+pub length-recorded : (S : Setting) (x : Row) → length (recorded S x) ≡ S .n
+unfolding recorded
+length-recorded S x = length-tab (S .n) _
+
+pub length-written : (S : Setting) (xs : List Row) → length (written S xs) ≡ S .n * length xs
 unfolding written
-length-written S h none = omega arith
-length-written S h (one {x} {xs} e es) = rw (length-append, length-take-le (S .n) x (omega arith), length-written S h es) (omega arith)
+length-written S [] = omega arith
+length-written S (x ∷ xs) = rw (length-append, length-recorded S x, length-written S xs) (omega arith)
 
 pub written-append : (S : Setting) (xs ys : List Row) → written S (xs ++ ys) ≡ written S xs ++ written S ys
 unfolding written

@@ -7,9 +7,10 @@ use mathlib.Core.List.{List, [], _∷_, _++_, map}
 use mathlib.Core.Option.{Option, none, some}
 use Prim.Native.Nat.{ℕ, suc}
 use lib.IntN.{ℤ, pos}
-use lib.ListN.{length, replicate}
+use lib.ListN.{length, getD, replicate}
 use Rattle.algebra.specs.Lists.{from, sameList}
 use Rattle.model.specs.Entries.{shareNumber, shareLeft, recoverNumber, recoverValue, recoverLeft, sumNumber, sumValue, encodeNumber, encodeValue, decodeNumber, decodeValue}
+use Rattle.model.specs.Presence.{everyone}
 use Rattle.model.specs.Steps.{Row}
 use Rattle.model.specs.Sheet.{shareBytes}
 use Rattle.model.specs.Counts.{listed}
@@ -46,18 +47,27 @@ Hold cases = map (λ c. c .computed) cases ≡ map (λ c. c .told) cases
 abbrev pub Case : Type 0
 Case = Told (List (List ℕ))
 
--- A sheet by its header's bytes, its script and its shares, run with a record and a revealed list of these lengths, each filled with 99.
+-- A sheet by its header's bytes, its script and its shares, run with the byte that says who is present, and with a record and a revealed list of these
+-- lengths, each filled with 99.
+abbrev pub ranBy : ℕ → List ℕ → List ℕ → List ℕ → ℕ → ℕ → List (List ℕ) → Case
+ranBy present header script shares log shown told =
+    record { computed = seen (run present (header ++ (script ++ shareBytes shares)) (replicate log 99) (replicate shown 99)); told = told }
+
+-- the same with everyone present, by the header's n
 abbrev pub ran : List ℕ → List ℕ → List ℕ → ℕ → ℕ → List (List ℕ) → Case
-ran header script shares log shown told =
-    record { computed = seen (run (header ++ (script ++ shareBytes shares)) (replicate log 99) (replicate shown 99)); told = told }
+ran header = ranBy (everyone (getD header 1 0)) header
 
 -- A run that leaves nothing but its number and place: the counts are 0, both buffers keep their contents and no register is set. Of a
 -- refused input: "Nothing is run. Both output buffers keep their contents, all registers are unset, all counts 0."
-abbrev pub stopped : List ℕ → List ℕ → List ℕ → ℕ → ℕ → Case
-stopped header script shares number place =
-    ran header script shares 3 1 ((number ∷ place ∷ 0 ∷ 0 ∷ 0 ∷ 0 ∷ 0 ∷ []) ∷ (99 ∷ 99 ∷ 99 ∷ []) ∷ (99 ∷ []) ∷ [])
+abbrev pub stoppedBy : ℕ → List ℕ → List ℕ → List ℕ → ℕ → ℕ → Case
+stoppedBy present header script shares number place =
+    ranBy present header script shares 3 1 ((number ∷ place ∷ 0 ∷ 0 ∷ 0 ∷ 0 ∷ 0 ∷ []) ∷ (99 ∷ 99 ∷ 99 ∷ []) ∷ (99 ∷ []) ∷ [])
 
--- the same of a script in field f, with n = 3 and t = 1 and no row
+-- the same with everyone present
+abbrev pub stopped : List ℕ → List ℕ → List ℕ → ℕ → ℕ → Case
+stopped header = stoppedBy (everyone (getD header 1 0)) header
+
+-- and of a script in field f, with n = 3 and t = 1 and no row
 abbrev pub scripted : ℕ → List ℕ → ℕ → ℕ → Case
 scripted f script number place = stopped (f ∷ 3 ∷ 1 ∷ 0 ∷ 0 ∷ 0 ∷ 0 ∷ 0 ∷ 0 ∷ length script ∷ 0 ∷ []) script [] number place
 

@@ -8,6 +8,7 @@ use Prim.Native.Nat.{ℕ, zero, suc, _+_, _*_, _-_, _≤_, _<_}
 use lib.ListN.{length, take, drop}
 use Rattle.algebra.specs.Lists.{onto}
 use Rattle.model.specs.Refusing.{firstFailed}
+use Rattle.model.specs.Presence.{everyone}
 use Rattle.model.specs.Sheet.{Header, headerOf, headerSize, inputsAt, rowCount, sheetNumber}
 use Rattle.model.specs.Columns.{sharesFrom, columnForm, sheetForm, partLength, partAt, partOf, sharesIn, columnIn, shapeTests, turnNumber, outputLeft}
 
@@ -58,10 +59,10 @@ pub record InParts (s c : List ℕ) : Type 0 where
 
 -- "Answers, the number alone"
 pub record TurnNumbers (s out : List ℕ) : Type 0 where
-  -- "1 to 4 as in the paper". A run tries 1 to 8 first (`sheetNumber`): where that number is 4 at most, it is the number here.
-  pub as-sheet : sheetNumber s ≤ 4 → firstFailed (shapeTests s) ≡ sheetNumber s
+  -- "1 to 4 as in the paper". A run, with everyone present, tries 1 to 8 first (`sheetNumber`): where that number is 4 at most, it is the number here.
+  pub as-sheet : sheetNumber (everyone (headerOf s .n)) s ≤ 4 → firstFailed (shapeTests s) ≡ sheetNumber (everyone (headerOf s .n)) s
   -- where a run refuses rows or deal, with 5 to 8, none of 1 to 4 refuses
-  pub rows-refused : 5 ≤ sheetNumber s → sheetNumber s ≤ 8 → Shaped s
+  pub rows-refused : 5 ≤ sheetNumber (everyone (headerOf s .n)) s → sheetNumber (everyone (headerOf s .n)) s ≤ 8 → Shaped s
   pub first : firstFailed (shapeTests s) ≢ 0 → turnNumber s out ≡ firstFailed (shapeTests s)
   -- "then 15, the output buffer is shorter than the sheet"
   pub short : Shaped s → length out < length s → turnNumber s out ≡ 15

@@ -3,12 +3,14 @@
 use mathlib.Core.List.{List, [], _∷_}
 use Prim.Native.Nat.{ℕ}
 
--- The field's modulus, the bits of a mask, the parties and the threshold that a sheet is worked with.
+-- What a sheet is worked with: the field's modulus, the bits of a mask, the parties, the threshold, and, by request 5, the byte that says which parties
+-- are present.
 pub record Setting : Type 0 where
   pub p : ℕ
   pub l : ℕ
   pub n : ℕ
   pub t : ℕ
+  pub present : ℕ
 
 -- The paper's terms: a row is n shares; a mask is its rows, bit 0 first; a triple is three rows; the deal is masks and triples.
 abbrev pub Row : Type 0

@@ -16,16 +16,16 @@ use Rattle.model.specs.Steps.{written}
 use Rattle.model.specs.Script.{Line, accepted}
 use Rattle.model.specs.Counts.{Counts}
 use Rattle.model.specs.Costs.{cost}
-use Rattle.model.specs.Sheet.{headerOf, largestIn, settingOf, inputIn, dealIn, secrets, sheetNumber}
+use Rattle.model.specs.Sheet.{headerOf, largestIn, settingWith, inputIn, dealIn, secrets, sheetNumber}
 use Rattle.model.specs.Run.{Supply, State, Stop, check, finish, start, supplyOf, sheetScript, stopOf, run}
 use Rattle.model.specs.Plain.{plainly, reveals}
 use Rattle.model.specs.Results.{Does}
 
--- "A sheet is accepted when it is not refused because of the input." It has lines and END's offset then.
-pub record Accepted (sheet : List ℕ) : Type 0 where
+-- "A sheet is accepted when it is not refused because of the input", the byte of request 5 included. It has lines and END's offset then.
+pub record Accepted (present : ℕ) (sheet : List ℕ) : Type 0 where
   pub lines : List Line
   pub end : ℕ
-  pub number : sheetNumber sheet ≡ 0
+  pub number : sheetNumber present sheet ≡ 0
   pub script : sheetScript sheet ≡ accepted lines end
 
 -- The states that the run of the lines xs passes through, at its start and after each finished command: with each the lines that are
@@ -103,17 +103,17 @@ pub record Exactly (S : Setting) (K : ℕ) (u : Supply) (input : List Row) (d : 
   -- the run's stop is one of these states
   pub stops : Stopped S u input d xs end x
 
--- for every accepted sheet and any lengths of the two buffers
+-- for every accepted sheet, whoever is present, and any lengths of the two buffers
 abbrev pub Exactness : Type 0
 Exactness =
-    (sheet : List ℕ) (log shown : ℕ) (a : Accepted sheet)
+    (present : ℕ) (sheet : List ℕ) (log shown : ℕ) (a : Accepted present sheet)
     → let h = headerOf sheet in
-    Exactly (settingOf h) (largestIn h) (supplyOf h log shown) (inputIn h sheet) (dealIn h sheet) (a .lines) (a .end) (stopOf sheet log shown)
+    Exactly (settingWith present h) (largestIn h) (supplyOf h log shown) (inputIn h sheet) (dealIn h sheet) (a .lines) (a .end) (stopOf present sheet log shown)
 
 -- Each mask opens one row, each triple two, and each REVEAL one: so the counts of every answer, also of a refused input, give the number of
 -- revealed values.
 abbrev pub Balance : Type 0
 Balance =
-    (sheet log revealed : List ℕ)
-    → let o = run sheet log revealed .counts in
+    (present : ℕ) (sheet log revealed : List ℕ)
+    → let o = run present sheet log revealed .counts in
     o .openings ≡ o .masks + 2 * o .triples + o .revealed

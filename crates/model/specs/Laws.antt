@@ -2,6 +2,7 @@
 -- Assumes nothing.
 use Rattle.model.specs.Fields.{FieldsTested, PartiesTested, EveryField}
 use Rattle.model.specs.Coding.{EveryCoding}
+use Rattle.model.specs.Presence.{Presence}
 use Rattle.model.specs.Script.{WholeScript}
 use Rattle.model.specs.Parts.{EveryColumn, EveryStep, EveryCommand, RunByCommands}
 use Rattle.model.specs.Formulas.{OneDivision, OneBegun, EveryFormula}
@@ -13,6 +14,7 @@ use Rattle.model.specs.Exactness.{Exactness, Balance}
 use Rattle.model.specs.Refusals.{Numbers, NothingRun}
 use Rattle.model.specs.Secrecy.{Secrecy}
 use Rattle.model.specs.RealRuns.{RealRuns}
+use Rattle.model.specs.PresentRuns.{PresentRuns}
 use Rattle.model.specs.CallLists.{Reads, CallLists}
 use Rattle.model.specs.ColumnForms.{ColumnForms}
 
@@ -21,6 +23,7 @@ pub record Laws : Type 0 where
   pub parties-tested : PartiesTested
   pub every-field : EveryField
   pub every-coding : EveryCoding
+  pub presence : Presence
   pub whole-script : WholeScript
   pub every-column : EveryColumn
   pub every-step : EveryStep
@@ -41,6 +44,7 @@ pub record Laws : Type 0 where
   pub nothing-run : NothingRun
   pub secrecy : Secrecy
   pub real-runs : RealRuns
+  pub present-runs : PresentRuns
   pub reads : Reads
   pub call-lists : CallLists
   pub column-forms : ColumnForms

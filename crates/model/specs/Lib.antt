@@ -2,6 +2,7 @@ pub mod Fields
 pub mod Sharing
 pub mod Coding
 pub mod Refusing
+pub mod Presence
 pub mod Entries
 pub mod Bytes
 pub mod Deal
@@ -26,6 +27,7 @@ pub mod Exactness
 pub mod Refusals
 pub mod Secrecy
 pub mod RealRuns
+pub mod PresentRuns
 pub mod Calls
 pub mod CallLists
 pub mod Columns

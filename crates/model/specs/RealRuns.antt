@@ -12,13 +12,13 @@ use Rattle.model.specs.Exactness.{Accepted}
 use Rattle.model.specs.Secrecy.{WellFormed, madeOn}
 
 -- the sheet that `runOn` runs for the sheet s and the deal d
-pub record RealRun (s : List ℕ) (d : Deal) : Type 0 where
-  pub is-accepted : Accepted (madeOn s d)
+pub record RealRun (present : ℕ) (s : List ℕ) (d : Deal) : Type 0 where
+  pub is-accepted : Accepted present (madeOn s d)
   pub says : Says (madeOn s d) (headerOf s) (scriptIn (headerOf s) s) (inputIn (headerOf s) s) d
   pub bytes : Below 256 s → Below 256 (madeOn s d)
 
--- for every accepted sheet
+-- for every accepted sheet, whoever is present
 pub record RealRuns : Type 0 where
-  pub made : (s : List ℕ) → Accepted s → (d : Deal) → WellFormed (headerOf s) d → RealRun s d
-  pub own-deal : (s : List ℕ) → Accepted s → WellFormed (headerOf s) (dealIn (headerOf s) s)
-  pub own-run : (s : List ℕ) → Accepted s → Below 256 s → madeOn s (dealIn (headerOf s) s) ≡ s
+  pub made : (present : ℕ) (s : List ℕ) → Accepted present s → (d : Deal) → WellFormed (headerOf s) d → RealRun present s d
+  pub own-deal : (present : ℕ) (s : List ℕ) → Accepted present s → WellFormed (headerOf s) (dealIn (headerOf s) s)
+  pub own-run : (present : ℕ) (s : List ℕ) → Accepted present s → Below 256 s → madeOn s (dealIn (headerOf s) s) ≡ s

@@ -23,26 +23,30 @@ isRun number = eqb number 0 || leb 21 number
 abbrev pub From : ℕ → ℕ → ℕ → Type 0
 From low high number = (low ≤ number) × (number ≤ high)
 
+-- the numbers of the tests before the script: 1 to 8, and request 5's 12
+abbrev pub OfSheet : ℕ → Type 0
+OfSheet number = From 1 8 number ⊎ (number ≡ 12)
+
 -- A sheet's number and place, against whether it is accepted.
-pub record Numbered (sheet : List ℕ) (number place : ℕ) : Type 0 where
-  -- the list of "Refused because of the input", 1 to 11: "A sheet is accepted when it is not refused because of the input."
-  pub input : From 1 11 number ↔ (Accepted sheet → ⊥)
+pub record Numbered (present : ℕ) (sheet : List ℕ) (number place : ℕ) : Type 0 where
+  -- the list of "Refused because of the input", 1 to 11, and 12: "A sheet is accepted when it is not refused because of the input."
+  pub input : From 1 12 number ↔ (Accepted present sheet → ⊥)
   -- the list of "Refused because of the state", 21 to 26; "Otherwise the answer is 0"
-  pub state : ((number ≡ 0) ⊎ From 21 26 number) ↔ Accepted sheet
-  pub is-run : T (isRun number) ↔ Accepted sheet
-  -- "each over the whole sheet before the next; 9 to 11 are tried command by command": 1 to 8 exactly where a test before the
+  pub state : ((number ≡ 0) ⊎ From 21 26 number) ↔ Accepted present sheet
+  pub is-run : T (isRun number) ↔ Accepted present sheet
+  -- "each over the whole sheet before the next; 9 to 11 are tried command by command": 1 to 8 and 12 exactly where a test before the
   -- script refuses
-  pub sheet-first : From 1 8 number ↔ (sheetNumber sheet ≢ 0)
-  -- "The place is 0 for 1 to 8"
-  pub sheet-place : From 1 8 number → (number ≡ sheetNumber sheet) × (place ≡ 0)
+  pub sheet-first : OfSheet number ↔ (sheetNumber present sheet ≢ 0)
+  -- "The place is 0 for 1 to 8", and for 12
+  pub sheet-place : OfSheet number → (number ≡ sheetNumber present sheet) × (place ≡ 0)
   -- and then the script: "for 9 to 11 the command's offset in the script, the script length if END is missing, or the offset just after END" (which of these it
   -- is: `scriptStep`)
-  pub script : (c i : ℕ) → sheetNumber sheet ≡ 0 → sheetScript sheet ≡ refused c i → (number ≡ c) × (place ≡ i) × From 9 11 c
+  pub script : (c i : ℕ) → sheetNumber present sheet ≡ 0 → sheetScript sheet ≡ refused c i → (number ≡ c) × (place ≡ i) × From 9 11 c
 
--- for every sheet, with buffers of any lengths: how its run stops, and its outcome
+-- for every sheet and every byte, with buffers of any lengths: how its run stops, and its outcome
 pub record Numbers : Type 0 where
-  pub of-stop : (sheet : List ℕ) (log shown : ℕ) → let x = stopOf sheet log shown in Numbered sheet (x .number) (x .place)
-  pub of-run : (sheet log revealed : List ℕ) → let x = run sheet log revealed in Numbered sheet (x .number) (x .place)
+  pub of-stop : (present : ℕ) (sheet : List ℕ) (log shown : ℕ) → let x = stopOf present sheet log shown in Numbered present sheet (x .number) (x .place)
+  pub of-run : (present : ℕ) (sheet log revealed : List ℕ) → let x = run present sheet log revealed in Numbered present sheet (x .number) (x .place)
 
 -- "Nothing is run. Both output buffers keep their contents, all registers are unset, all counts 0." "the cells of an unset register are 0"
 pub record Untouched (log revealed : List ℕ) (x : Outcome) : Type 0 where
@@ -52,6 +56,6 @@ pub record Untouched (log revealed : List ℕ) (x : Outcome) : Type 0 where
   pub cells : x .registers ≡ replicate 64 noRow
   pub counts : x .counts ≡ record { inputs = 0; masks = 0; triples = 0; openings = 0; revealed = 0 }
 
--- for every sheet that is not accepted, and all buffers
+-- for every sheet that is not accepted with the byte that is given, and all buffers
 abbrev pub NothingRun : Type 0
-NothingRun = (sheet log revealed : List ℕ) → (Accepted sheet → ⊥) → Untouched log revealed (run sheet log revealed)
+NothingRun = (present : ℕ) (sheet log revealed : List ℕ) → (Accepted present sheet → ⊥) → Untouched log revealed (run present sheet log revealed)

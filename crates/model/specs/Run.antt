@@ -19,7 +19,7 @@ use Rattle.model.specs.Costs.{modTriples, cost}
 pub use Rattle.model.specs.Checks.{Spent, Supply}
 unfoldable pub use Rattle.model.specs.Checks.{allSet, marked, check, pay}
 use Rattle.model.specs.Commands.{Ended, command, lines}
-use Rattle.model.specs.Sheet.{Header, headerOf, largestIn, settingOf, scriptIn, inputIn, dealIn, sheetNumber}
+use Rattle.model.specs.Sheet.{Header, headerOf, largestIn, settingWith, settingOf, scriptIn, inputIn, dealIn, sheetNumber}
 
 -- The state of a run: what was spent, the registers, the deal that is left, the rows opened and the values revealed so far.
 pub record State : Type 0 where
@@ -111,22 +111,25 @@ refusedInput number place = record { number = number; place = place; state = sta
 abbrev pub supplyOf : Header → ℕ → ℕ → Supply
 supplyOf h log shown = record { inputs = h .inputs; masks = h .masks; triples = h .triples; parties = h .n; log = log; shown = shown }
 
--- the stop of a script that was read: refused, or run from the start on the sheet's input and deal
-unfoldable pub runScript : Header → List ℕ → ℕ → ℕ → Script → Stop
-runScript h s log shown (refused number place) = refusedInput number place
-runScript h s log shown (accepted xs end) = runLines (settingOf h) (supplyOf h log shown) (inputIn h s) end xs (start (dealIn h s))
+-- the stop of a script that was read: refused, or run from the start on the sheet's input and deal, with these parties present
+unfoldable pub runScript : ℕ → Header → List ℕ → ℕ → ℕ → Script → Stop
+runScript present h s log shown (refused number place) = refusedInput number place
+runScript present h s log shown (accepted xs end) =
+    runLines (settingWith present h) (supplyOf h log shown) (inputIn h s) end xs (start (dealIn h s))
 
 -- "9 to 11 are tried command by command from the script's start": the sheet's script, read with p and the largest k of its header
 abbrev pub sheetScript : List ℕ → Script
 sheetScript s = let h = headerOf s in scriptOf (settingOf h .p) (largestIn h) (scriptIn h s)
 
--- 1 to 8 are tried before 9 to 11, and the script is run where none refuses. "The place is 0 for 1 to 8; for 9 to 11 the command's offset in the
--- script, the script length if END is missing, or the offset just after END."
-unfoldable pub stopOf : List ℕ → ℕ → ℕ → Stop
-stopOf s log shown = given (sheetNumber s) (runScript (headerOf s) s log shown (sheetScript s)) (refusedInput (sheetNumber s) 0)
+-- 1 to 8 and 12 are tried before 9 to 11, and the script is run where none refuses. "The place is 0 for 1 to 8; for 9 to 11 the command's offset in
+-- the script, the script length if END is missing, or the offset just after END." Of 12 request 5 says "with place 0".
+unfoldable pub stopOf : ℕ → List ℕ → ℕ → ℕ → Stop
+stopOf present s log shown =
+    let number = sheetNumber present s in
+    given number (runScript present (headerOf s) s log shown (sheetScript s)) (refusedInput number 0)
 
 -- The run of a sheet with two lent buffers: "For each input, the one permitted answer, each cell, and both buffers to their last number, also
 -- when refused." Demand 1: "A bad sheet or a spent deal gets its number from document 01, called the paper here, and nothing past the last
--- finished command is touched."
-unfoldable pub run : List ℕ → List ℕ → List ℕ → Outcome
-run s log revealed = outcome (settingOf (headerOf s)) log revealed (stopOf s (length log) (length revealed))
+-- finished command is touched." Request 5: "A run now also takes one byte whose bit j − 1 says that party j is present".
+unfoldable pub run : ℕ → List ℕ → List ℕ → List ℕ → Outcome
+run present s log revealed = outcome (settingWith present (headerOf s)) log revealed (stopOf present s (length log) (length revealed))

@@ -49,11 +49,11 @@ pub record SameTo (set : List ℕ) (x y : Outcome) : Type 0 where
 abbrev pub madeOn : List ℕ → Deal → List ℕ
 madeOn s d = sheetOf (headerOf s) (scriptIn (headerOf s) s) (inputIn (headerOf s) s) d
 
-abbrev pub runOn : List ℕ → Deal → List ℕ → List ℕ → Outcome
-runOn s d = run (madeOn s d)
+abbrev pub runOn : ℕ → List ℕ → Deal → List ℕ → List ℕ → Outcome
+runOn present s d = run present (madeOn s d)
 
 -- "a one-to-one map of all well-formed deals onto themselves that keeps that set's dealt shares": a map and the map that undoes it
-pub record Veil (set s s′ : List ℕ) (log shown : ℕ) : Type 0 where
+pub record Veil (present : ℕ) (set s s′ : List ℕ) (log shown : ℕ) : Type 0 where
   pub to : Deal → Deal
   pub from : Deal → Deal
   pub to-formed : (d : Deal) → WellFormed (headerOf s) d → WellFormed (headerOf s) (to d)
@@ -64,24 +64,26 @@ pub record Veil (set s s′ : List ℕ) (log shown : ℕ) : Type 0 where
   pub keeps : (d : Deal) → WellFormed (headerOf s) d → Alike set (dealRows d) (dealRows (to d))
   -- "for every well-formed deal, the first sheet's input run on it and the second sheet's input run on its image", whatever the buffers held
   pub same : (d : Deal) → WellFormed (headerOf s) d → (a b : List ℕ) → length a ≡ log → length b ≡ shown
-      → SameTo set (runOn s d a b) (runOn s′ (to d) a b)
+      → SameTo set (runOn present s d a b) (runOn present s′ (to d) a b)
 
 -- "For any set of t parties, take any two accepted sheets with the same header, script and output lengths, whose input shares agree in that set's
 -- columns": the output lengths are log and shown in `Secrecy`
-pub record Twins (set s s′ : List ℕ) : Type 0 where
-  pub first : Accepted s
-  pub second : Accepted s′
+pub record Twins (present : ℕ) (set s s′ : List ℕ) : Type 0 where
+  pub first : Accepted present s
+  pub second : Accepted present s′
   pub header : headerOf s ≡ headerOf s′
   pub script : scriptIn (headerOf s) s ≡ scriptIn (headerOf s′) s′
   pub parties : Group (headerOf s .n) (headerOf s .t) set
   pub inputs : Alike set (inputIn (headerOf s) s) (inputIn (headerOf s′) s′)
 
 -- "A sheet's revealed values are the secrets read by the REVEALs that finish when it is run, in order."
-abbrev pub revealedBy : List ℕ → ℕ → ℕ → List ℕ
-revealedBy s log shown = stopOf s log shown .state .shown
+abbrev pub revealedBy : ℕ → List ℕ → ℕ → ℕ → List ℕ
+revealedBy present s log shown = stopOf present s log shown .state .shown
 
 -- "and whose revealed values agree, whatever the script does and wherever its run stops, a refused command included. Then there is a
--- one-to-one map". "The map is fixed by the set, the two sheets and the output lengths, before any deal is named."
+-- one-to-one map". "The map is fixed by the set, the two sheets and the output lengths, before any deal is named." Request 5: "The secrecy rule compares
+-- two runs with the same set", that of the parties present, which is given before the map too.
 abbrev pub Secrecy : Type 0
 Secrecy =
-    (set s s′ : List ℕ) (log shown : ℕ) → Twins set s s′ → revealedBy s log shown ≡ revealedBy s′ log shown → Veil set s s′ log shown
+    (present : ℕ) (set s s′ : List ℕ) (log shown : ℕ) → Twins present set s s′ → revealedBy present s log shown ≡ revealedBy present s′ log shown
+    → Veil present set s s′ log shown

@@ -12,7 +12,7 @@ use Rattle.algebra.specs.Lists.{Below, Distinct}
 use Rattle.algebra.specs.Rows.{row, on, padded}
 use Rattle.model.specs.Fields.{Parties, modulus, largestK, InUse}
 use Rattle.model.specs.Coding.{inRange}
-use Rattle.model.specs.Sharing.{Sharing, eval, share, recover, secret, isSharing, at}
+use Rattle.model.specs.Sharing.{Sharing, eval, share, recover, secret, valueFrom, isSharing, at}
 use Rattle.model.specs.Entries.{shareNumber, shareLeft, recoverNumber, recoverValue, recoverLeft, encodeNumber, encodeValue, decodeNumber, decodeValue}
 
 -- c distinct points of 0 to n
@@ -63,6 +63,8 @@ pub record Shamir (p n t : ℕ) : Type 0 where
   -- a sharing is fixed by its values at any t + 1 distinct points of 0 to n
   pub fixed : (xs x y : List ℕ) → Points n (suc t) xs → Sharing p n t x → Sharing p n t y
       → ((z : ℕ) → In z xs → at (secret p t x) x z ≡ at (secret p t y) y z) → x ≡ y
+  -- any t + 1 parties' shares of a sharing give its secret
+  pub any-parties : (xs x : List ℕ) → Group n (suc t) xs → Sharing p n t x → valueFrom p xs x ≡ secret p t x
   -- any t parties' shares of a sharing say nothing of its secret
   pub hidden : (set x : List ℕ) (v : ℕ) → Group n t set → Sharing p n t x → v < p → OneKept p n t set x v
 

@@ -59,6 +59,10 @@ recover p t x = interpolate p (from 1 (suc t)) (at 0 x)
 unfoldable pub secret : ℕ → ℕ → List ℕ → ℕ
 secret p t x = eval p (recover p t x) 0
 
+-- Request 5: the value at 0 that the shares of some parties xs give, by the polynomial through them
+unfoldable pub valueFrom : ℕ → List ℕ → List ℕ → ℕ
+valueFrom p xs x = eval p (interpolate p xs (at 0 x)) 0
+
 -- `Sharing` as a test: what is recovered is shared to the row again
 unfoldable pub isSharing : ℕ → ℕ → ℕ → List ℕ → Bool
 isSharing p n t x = sameList (share p n (recover p t x)) x

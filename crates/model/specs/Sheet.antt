@@ -1,5 +1,5 @@
--- The paper, "The sheet" and "Refused because of the input": header, rows, the refusals 1 to 8, and a sheet's bytes made of header, script,
--- input and deal.
+-- The paper, "The sheet" and "Refused because of the input": header, rows, the refusals 1 to 8, request 5's 12, and a sheet's bytes made of header,
+-- script, input and deal.
 -- A sheet, the paper's term, is the bytes of header, script, input rows and deal.
 -- Assumes nothing.
 use mathlib.Core.Bool.{Bool, true, _&&_}
@@ -12,6 +12,7 @@ use Rattle.algebra.specs.Lists.{allBelow}
 use Rattle.model.specs.Fields.{modulus, bits, largestK, InUse, Parties, settingTests}
 use Rattle.model.specs.Sharing.{secret, isSharing}
 use Rattle.model.specs.Refusing.{firstFailed}
+use Rattle.model.specs.Presence.{everyone, permittedSet}
 use Rattle.model.specs.Bytes.{number, rowAt}
 use Rattle.model.specs.Deal.{Setting, Row, Triple, Deal}
 
@@ -51,9 +52,13 @@ maskBits h = bits (h .field)
 unfoldable pub largestIn : Header → ℕ
 largestIn h = largestK (h .field)
 
--- "Four fields are held in one constant table": p of the header's field and the bits of its masks, with its n and t
+-- "Four fields are held in one constant table": p of the header's field and the bits of its masks, with its n and t; and who is present
+abbrev pub settingWith : ℕ → Header → Setting
+settingWith present h = record { p = modulus (h .field); l = maskBits h; n = h .n; t = h .t; present = present }
+
+-- the same with everyone present
 abbrev pub settingOf : Header → Setting
-settingOf h = record { p = modulus (h .field); l = maskBits h; n = h .n; t = h .t }
+settingOf h = settingWith (everyone (h .n)) h
 
 -- "input rows (at most 64), masks (at most 16), triples (at most 512), script length (at most 1,024)"
 unfoldable pub limits : Header → Bool
@@ -160,6 +165,10 @@ headerTests s =
     -- "2: field over 3", "3: n or t outside the ranges"
     ∷ settingTests (h .field) (h .n) (h .t)
 
+-- request 5: "12, a bit beyond n is set or fewer than t + 1 parties are present, tried after 3"
+unfoldable pub presentTests : Header → ℕ → List (Bool × ℕ)
+presentTests h present = (permittedSet (h .n) (h .t) present, 12) ∷ []
+
 -- "4: a count over its limit"
 unfoldable pub limitTests : Header → List (Bool × ℕ)
 limitTests h = (limits h, 4) ∷ []
@@ -182,15 +191,16 @@ rowTests S input d =
     ∷ (all (goodTriple S) (d .triples), 8)
     ∷ []
 
--- "Tried in this order, each over the whole sheet before the next"
-unfoldable pub sheetTests : List ℕ → List (Bool × ℕ)
-sheetTests s =
+-- "Tried in this order, each over the whole sheet before the next": of a sheet, and of the byte that a run takes with it. The tests of rows do not look
+-- at who is present.
+unfoldable pub sheetTests : ℕ → List ℕ → List (Bool × ℕ)
+sheetTests present s =
     let h = headerOf s in
-    headerTests s ++ (limitTests h ++ (lengthTests h s ++ rowTests (settingOf h) (inputIn h s) (dealIn h s)))
+    headerTests s ++ (presentTests h present ++ (limitTests h ++ (lengthTests h s ++ rowTests (settingWith present h) (inputIn h s) (dealIn h s))))
 
--- 1 to 8, or 0
-abbrev pub sheetNumber : List ℕ → ℕ
-sheetNumber s = firstFailed (sheetTests s)
+-- 1, 2, 3, 12, 4 to 8, or 0
+abbrev pub sheetNumber : ℕ → List ℕ → ℕ
+sheetNumber present s = firstFailed (sheetTests present s)
 
 -- a header that neither 2 nor 3 refuses, nor 4 for a count
 pub record Permitted (h : Header) : Type 0 where

@@ -2,14 +2,15 @@
 -- masked opening and REVEAL do with rows; the steps made of them are in Trees.antt, and are named here as they work on rows.
 -- What Deal.antt defines is passed on.
 -- Assumes nothing.
-use mathlib.Core.Bool.{Bool}
+use mathlib.Core.Bool.{Bool, cond}
 use mathlib.Core.List.{List, [], _∷_, _++_}
-use Prim.Native.Nat.{ℕ, _-_, _^_}
-use lib.ListN.{take}
+use Prim.Native.Nat.{ℕ, suc, _-_, _^_}
+use lib.ListN.{getD}
 use Rattle.algebra.specs.Ring.{add, sub, mul}
 use Rattle.algebra.specs.Lists.{first, others}
-use Rattle.algebra.specs.Rows.{row, on}
-use Rattle.model.specs.Sharing.{secret}
+use Rattle.algebra.specs.Rows.{tab, row, on}
+use Rattle.model.specs.Sharing.{valueFrom}
+use Rattle.model.specs.Presence.{isPresent, openers}
 pub use Rattle.model.specs.Deal.{Setting, Row, Triple, Deal}
 use Rattle.model.specs.Trees.{Ops, Tree, done, multiply, mask, reveal, Remainder}
 use Rattle.model.specs.Trees as Trees
@@ -49,15 +50,20 @@ module _ (S : Setting) where
   abbrev pub rowOps : Ops Row
   rowOps = record { plus = plus; minus = minus; times = times; constant = constant }
 
-  -- "Opening: the n shares go to the record, party 1 first, and the value at 0 becomes public." This is the value at 0. `byRows` lists the rows
-  -- that are opened; `written` has their shares, and `outcome` in Run.antt puts them in the record.
+  -- "Opening: the n shares go to the record, party 1 first, and the value at 0 becomes public." Request 5: "an opening is worked from the lowest t + 1
+  -- present parties". This is the value at 0. `byRows` lists the rows that are opened; `written` has their shares, and `outcome` in Run.antt puts them in
+  -- the record.
   unfoldable pub value : Row → ℕ
-  value x = secret (S .p) (S .t) x
+  value x = valueFrom (S .p) (openers (S .n) (S .t) (S .present)) x
+
+  -- the n numbers of an opening: "in the record p itself stands for an absent share"
+  unfoldable pub recorded : Row → List ℕ
+  recorded x = tab (S .n) (λ j. cond (isPresent (S .present) (suc j)) (getD x j 0) (S .p))
 
   -- the record's numbers, opening by opening
   unfoldable pub written : List Row → List ℕ
   written [] = []
-  written (x ∷ xs) = take (S .n) x ++ written xs
+  written (x ∷ xs) = recorded x ++ written xs
 
   -- Where the deal has no triple or mask, which the checks shut out, one of zeros or of no bits is taken.
   abbrev pub noTriple : Triple
