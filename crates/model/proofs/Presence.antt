@@ -170,27 +170,41 @@ take-from zero m j h = refl
 take-from (suc k) zero j h = absurd (omega arith)
 take-from (suc k) (suc m) j h = ap (λ (l : List ℕ). j ∷ l) (take-from k m (suc j) (omega arith))
 
--- whoever is present, an opening is worked from t + 1 different parties
-pub openers-group : (n t b : ℕ) → t < n → Group n (suc t) (openers n t b)
-unfolding openers
-openers-group n t b h =
-    let js = from 1 n in
-    let R = split b js in
-    let r = R .rises (rising-from 1 n) in
-    let here-list = presentIn b js in
-    let gone = absentIn b js in
-    let parties : (z : ℕ) → In z (take (suc t) (here-list ++ gone)) → In z js =
-    λ z m. ⊎-elim (λ l. R .in-present z l .0) (λ l. R .in-absent z l .0) (in-append here-list gone (in-take (suc t) (here-list ++ gone) m)) in
-    record {
-      points =
-          record {
-            count = length-take-le (suc t) (here-list ++ gone) (rw length-append (omega (arith, lengths b js, length-from 1 n)));
-            distinct = distinct-take (suc t) (here-list ++ gone)
-                (distinct-append here-list gone (rising-distinct here-list (r .0)) (rising-distinct gone (r .1)) (λ z m l. true-false (sym (R .in-present z m .1) ∙ R .in-absent z l .1)));
-            most = λ z m. omega (arith, in-from 1 n (parties z m));
-          };
-      least = λ z m. omega (arith, in-from 1 n (parties z m));
-    }
+-- whoever is present, an opening is worked from different parties of 1 to n, t + 1 where there are so many
+module _ (n t b : ℕ) where
+  both : List ℕ
+  both = presentIn b (from 1 n) ++ absentIn b (from 1 n)
+
+  pub openers-in : (z : ℕ) → In z (openers n t b) → (1 ≤ z) × (z ≤ n)
+  unfolding openers both
+  openers-in z m =
+      let R = split b (from 1 n) in
+      let parties = ⊎-elim (λ l. R .in-present z l .0) (λ l. R .in-absent z l .0) (in-append (presentIn b (from 1 n)) (absentIn b (from 1 n)) (in-take (suc t) both m)) in
+      let l = in-from 1 n parties in
+      (l .0, omega arith)
+
+  pub openers-distinct : Distinct (openers n t b)
+  unfolding openers both
+  openers-distinct =
+      let R = split b (from 1 n) in
+      let r = R .rises (rising-from 1 n) in
+      let xs = presentIn b (from 1 n) in
+      let ys = absentIn b (from 1 n) in
+      distinct-take (suc t) both
+      (distinct-append xs ys (rising-distinct xs (r .0)) (rising-distinct ys (r .1)) (λ z m l. true-false (sym (R .in-present z m .1) ∙ R .in-absent z l .1)))
+
+  pub openers-group : t < n → Group n (suc t) (openers n t b)
+  unfolding openers both
+  openers-group h =
+      record {
+        points =
+            record {
+              count = length-take-le (suc t) both (rw length-append (omega (arith, lengths b (from 1 n), length-from 1 n)));
+              distinct = openers-distinct;
+              most = λ z m. openers-in z m .1;
+            };
+        least = λ z m. openers-in z m .0;
+      }
 
 opened-from : (n t b : ℕ) → PermittedSet n t b → Lowest n t b (openers n t b)
 unfolding openers

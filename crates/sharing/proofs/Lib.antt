@@ -1,4 +1,5 @@
 pub mod Sums
+pub mod Presences
 pub mod Horner
 pub mod Testing
 pub mod Recovery

@@ -1,17 +1,47 @@
 -- The code's setting as the paper's, and what is asked of one.
 -- Assumes nothing.
-use Prim.Native.Nat.{_≤_}
+use mathlib.Core.Path.{_≡_}
+use mathlib.Core.List.{List, map}
+use Prim.Native.Nat.{ℕ, suc, _/_, _^_, _≤_}
+use lib.ListN.{length, take}
+use Rattle.algebra.specs.Lists.{Below, from}
 use Rattle.model.specs.Fields.{Modulus}
+use Rattle.model.specs.Sharing.{weight}
+use Rattle.model.specs.Presence.{presentIn, openers}
 use Rattle.model.specs.Deal as Paper
+use Rattle.sharing.specs.declared.presence.Found.{Found}
+use Rattle.sharing.specs.declared.presence.Opening.{Opening}
 use Rattle.sharing.specs.declared.setting.Setting.{Setting}
 
 -- number by number
 abbrev pub settingOf : Setting → Paper.Setting
-settingOf S = record { p = S .p; l = S .l; n = S .n; t = S .t }
+settingOf S = record { p = S .p; l = S .l; n = S .n; t = S .t; present = S .opening .present }
 
--- p is the modulus of a field in use, rows of n shares fit seven cells, t + 1 shares are at most four, and a mask has at most 31 bits.
+-- the lowest e present ones of parties 1 to n, at the start of the list, and the byte without the bits of parties 1 to n
+pub record LowestOf (n e present : ℕ) (x : Found) : Type 0 where
+  pub parties : take (x .count) (x .parties) ≡ take e (presentIn present (from 1 n))
+  pub count : x .count ≡ length (take e (presentIn present (from 1 n)))
+  pub beyond : x .beyond ≡ present / 2 ^ n
+  pub low : Below 8 (x .parties)
+
+-- one party more was looked at, whatever byte the others were found by
+abbrev pub Further : ℕ → ℕ → Found → Found → Type 0
+Further j e x y = (present : ℕ) → LowestOf j e present x → LowestOf (suc j) e present y
+
+-- the weights of some parties, each among all of them
+abbrev pub weightsAmong : ℕ → List ℕ → List ℕ
+weightsAmong p xs = map (weight p xs) xs
+
+-- an opening is worked from the parties in the first t + 1 places, which are the lowest present ones, and with their weights
+pub record Opens (p n t : ℕ) (x : Opening) : Type 0 where
+  pub parties : take (suc t) (x .parties) ≡ openers n t (x .present)
+  pub weights : take (suc t) (x .weights) ≡ weightsAmong p (openers n t (x .present))
+
+-- p is the modulus of a field in use, rows of n shares fit seven cells, t + 1 shares are at most four, and a mask has at most 31 bits; and openings are worked
+-- as they should be.
 pub record Fitting (S : Setting) : Type 0 where
   pub modulus : Modulus (S .p)
   pub parties : S .n ≤ 7
   pub threshold : S .t ≤ 3
   pub bits : S .l ≤ 31
+  pub opens : Opens (S .p) (S .n) (S .t) (S .opening)

@@ -20,7 +20,7 @@ fn weight(p: u32, e: usize, x: usize) -> u32
     if x % 2 == 1 { binomial } else { p - binomial }
 }
 
-fn wide(x: u32) -> u64
+pub fn wide(x: u32) -> u64
     ensures { λ r. ⌜ (r ≡ x) × (r < 2 ^ 32) ⌝ }
 {
     x as u64
@@ -42,7 +42,7 @@ fn weighted_sum(p: u32, e: usize, row: Row, i: usize) -> u64
 }
 
 // Reduces a sum, which is done last.
-fn reduce_sum(p: u32, sum: u64) -> u32
+pub fn reduce_sum(p: u32, sum: u64) -> u32
     requires { ⌜ Fields.Modulus p ⌝ }
     ensures { λ r. ⌜ (r ≡ sum % p) × (r < p) ⌝ }
 {

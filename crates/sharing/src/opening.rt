@@ -1,0 +1,37 @@
+// The value that an opening gives, and the shares that it shows.
+ghost use mathlib.Core.Path.{_≡_};
+ghost use Prim.Native.Nat.{_≤_, _<_};
+ghost use lib.ListN.{length};
+ghost use Rattle.algebra.specs.Lists as Lists;
+ghost use Rattle.model.specs.Sharing as Sharing;
+ghost use Rattle.model.specs.Presence as Presence;
+ghost use Rattle.model.specs.Steps as Steps;
+ghost use Rattle.sharing.specs.Settings.{settingOf, Fitting};
+use crate::rows::Row;
+use crate::secret;
+use crate::setting::Setting;
+
+// The sum before reducing, of the shares of the lowest t + 1 present parties: each times its weight below p, added. Shares below p are asked for, since
+// the weights of other parties than 1 to t + 1 are any numbers below p.
+fn opened_sum(setting: Setting, row: Row) -> u64
+    requires { ⌜ Fitting setting × Lists.Below (setting .p) (row .shares) ⌝ }
+    ensures { λ r. ⌜ r ≡ Sharing.weighted (setting .p) (Presence.openers (setting .n) (setting .t) (setting .opening .present)) (Sharing.at 0 (row .shares)) ⌝ }
+{
+    let opening = setting.opening;
+    let mut sum: u64 = 0;
+    let mut i = 0;
+    while i <= setting.t {
+        let party = opening.parties[i];
+        sum += secret::wide(opening.weights[i]) * secret::wide(row.shares[party - 1]);
+        i += 1;
+    }
+    sum
+}
+
+// The value at 0 that these shares give.
+pub fn opened_value(setting: Setting, row: Row) -> u32
+    requires { ⌜ Fitting setting × Lists.Below (setting .p) (row .shares) ⌝ }
+    ensures { λ r. ⌜ (r ≡ Steps.value (settingOf setting) (row .shares)) × (r < setting .p) ⌝ }
+{
+    secret::reduce_sum(setting.p, opened_sum(setting, row))
+}

@@ -1,0 +1,155 @@
+// Who is present: the lowest t + 1 present parties, from whose shares an opening is worked, and their weights.
+ghost use mathlib.Core.Path.{_≡_};
+ghost use Prim.Native.Nat.{_+_, _-_, _/_, _≤_, _<_};
+ghost use lib.ListN.{set, take};
+ghost use Rattle.algebra.specs.Lists as Lists;
+ghost use Rattle.model.specs.Fields as Fields;
+ghost use Rattle.model.specs.Presence as Presence;
+ghost use Rattle.model.specs.Sharing as Sharing;
+ghost use Rattle.sharing.specs.Settings.{LowestOf, Further, weightsAmong, Opens};
+use field::arithmetic;
+use field::table;
+
+// How a run works its openings: the byte that says who is present, and in the first t + 1 places the parties and their weights.
+pub struct Opening {
+    pub present: u32,
+    pub parties: [usize; 4],
+    pub weights: [u32; 4],
+}
+
+// The lowest present parties, how many there are of them, and what is left of the byte past the bits of parties 1 to n.
+pub struct Found {
+    pub parties: [usize; 4],
+    pub count: usize,
+    pub beyond: u32,
+}
+
+fn taken(mut found: Found, party: usize) -> Found
+    requires { ⌜ found .count < 4 ⌝ }
+    ensures { λ r. ⌜ r ≡ record { parties = set (found .parties) (found .count) party; count = found .count + 1; beyond = found .beyond / 2 } ⌝ }
+{
+    let count = found.count;
+    found.parties[count] = party;
+    found.count = count + 1;
+    found.beyond = found.beyond / 2;
+    found
+}
+
+fn left_out(mut found: Found) -> Found
+    ensures { λ r. ⌜ r ≡ record { parties = found .parties; count = found .count; beyond = found .beyond / 2 } ⌝ }
+{
+    found.beyond = found.beyond / 2;
+    found
+}
+
+// The party after j parties is looked at: it is taken if it is present and fewer than e are.
+fn look_at(found: Found, e: usize, j: usize) -> Found
+    requires { ⌜ (e ≤ 4) × (j < 7) ⌝ }
+    ensures { λ r. ⌜ Further j e found r ⌝ }
+{
+    if found.beyond % 2 == 1 {
+        if found.count < e {
+            taken(found, j + 1)
+        } else {
+            left_out(found)
+        }
+    } else {
+        left_out(found)
+    }
+}
+
+// At most e of parties 1 to n.
+pub fn lowest(n: usize, e: usize, present: u32) -> Found
+    requires { ⌜ (n ≤ 7) × (e ≤ 4) ⌝ }
+    ensures { λ r. ⌜ LowestOf n e present r ⌝ }
+{
+    let mut found = Found {
+        parties: [0usize; 4],
+        count: 0,
+        beyond: present,
+    };
+    let mut j = 0;
+    while j < n {
+        found = look_at(found, e, j);
+        j += 1;
+    }
+    found
+}
+
+// Whether no bit beyond n is set and t + 1 parties are present.
+pub fn permitted(n: usize, t: usize, present: u32) -> bool
+    requires { ⌜ (n ≤ 7) × (t ≤ 3) ⌝ }
+    ensures { λ r. ⌜ r ≡ Presence.permittedSet n t present ⌝ }
+{
+    let found = lowest(n, t + 1, present);
+    if found.beyond == 0 {
+        found.count == t + 1
+    } else {
+        false
+    }
+}
+
+// a − b, and 0 where b is larger.
+fn above(a: usize, b: usize) -> usize
+    ensures { λ r. ⌜ r ≡ a - b ⌝ }
+{
+    if b < a { a - b } else { 0 }
+}
+
+// z/(z − x), and 1 where z is x: what party z gives to the weight of party x.
+fn ratio(field: usize, x: usize, z: usize) -> u32
+    requires { ⌜ Fields.InUse field × (x < 8) × (z < 8) ⌝ }
+    ensures { λ r. ⌜ (r ≡ Sharing.ratio (Fields.modulus field) x z) × (r < Fields.modulus field) ⌝ }
+{
+    if z == x {
+        return 1;
+    }
+    let p = table::modulus(field);
+    let up = table::inverse(field, above(z, x));
+    let down = table::inverse(field, above(x, z));
+    arithmetic::mul(p, z as u32, arithmetic::sub(p, up, down))
+}
+
+// The Lagrange weight at 0 of party x among the first e of some parties.
+fn weight_among(field: usize, parties: [usize; 4], e: usize, x: usize) -> u32
+    requires { ⌜ Fields.InUse field × (e ≤ 4) × (x < 8) × Lists.Below 8 parties ⌝ }
+    ensures { λ r. ⌜ r ≡ Sharing.weight (Fields.modulus field) (take e parties) x ⌝ }
+{
+    let p = table::modulus(field);
+    let mut weight = 1;
+    let mut i = e;
+    while i > 0 {
+        i -= 1;
+        weight = arithmetic::mul(p, ratio(field, x, parties[i]), weight);
+    }
+    weight
+}
+
+fn weights_among(field: usize, parties: [usize; 4], e: usize) -> [u32; 4]
+    requires { ⌜ Fields.InUse field × (e ≤ 4) × Lists.Below 8 parties ⌝ }
+    ensures { λ r. ⌜ take e r ≡ weightsAmong (Fields.modulus field) (take e parties) ⌝ }
+{
+    let mut weights = [0u32; 4];
+    let mut i = 0;
+    while i < e {
+        weights[i] = weight_among(field, parties, e, parties[i]);
+        i += 1;
+    }
+    weights
+}
+
+// How openings are worked with these parties present, which is found once in a run.
+pub fn opening_of(field: usize, n: usize, t: usize, present: u32) -> Opening
+    requires { ⌜ Fields.InUse field × Fields.Parties n t × Presence.PermittedSet n t present ⌝ }
+    ensures { λ r. ⌜ (r .present ≡ present) × Opens (Fields.modulus field) n t r ⌝ }
+{
+    let e = t + 1;
+    let found = lowest(n, e, present);
+    let parties = found.parties;
+    let weights = weights_among(field, parties, e);
+    Opening {
+        present,
+        parties,
+        weights,
+    }
+}
