@@ -7,11 +7,12 @@ use crate::columns::{held as turns, Way};
 use crate::compare::Entered;
 use crate::sheets::held::{self as sheets, Held, Left};
 
-pub const NAMES: [&str; 7] = [
+pub const NAMES: [&str; 8] = [
     "SheetCases",
     "ScriptCases",
     "RunCases",
     "MaskCases",
+    "PresentCases",
     "EntryCases",
     "CallCases",
     "ColumnCases",
@@ -48,6 +49,11 @@ pub fn text(name: &str) -> Option<String> {
             "The paper, \"Steps\": the commands that take a mask, with the rows that they open.",
             ("Case", "maskCases"),
             sheet_rows(&sheets::masked()),
+        )),
+        "PresentCases" => Some(file(
+            "Request 5, \"A firm's machine is down\": runs with absent parties, and the sets that 12 refuses.",
+            ("Case", "presentCases"),
+            present_rows(&sheets::present()),
         )),
         "EntryCases" => Some(file(
             "The paper, \"Fields and parties\", and request 4, \"Sum first, reduce after\": calls of the small entries, and what they answer.",
@@ -100,7 +106,9 @@ fn file(subject: &str, (kind, name): (&str, &str), rows: Vec<Row>) -> String {
     }
     let forms = used(&[
         "ran",
+        "ranBy",
         "stopped",
+        "stoppedBy",
         "scripted",
         "shared",
         "recovered",
@@ -175,25 +183,54 @@ fn sheet_rows(all: &[Held]) -> Vec<Row> {
         .collect()
 }
 
-/// A run that did nothing is told by its number and place.
+/// A run with everyone present. One that did nothing is told by its number and place.
 fn sheet_row(held: &Held) -> Vec<String> {
     let left = held.left();
-    let (number, place) = (left.answer.number, left.answer.place);
-    let (header, script, shares) = (list(&held.header), list(&held.script), list(&held.shares));
     if !is_untouched(held, &left) {
-        let (record, revealed) = (held.record, held.revealed);
-        return vec![
-            format!("ran {header} {script}"),
-            format!("{shares} {record} {revealed}"),
-            told(&left),
-        ];
+        return ran("ran", held, &left);
     }
-    if held.shares.is_empty() && header == list(&plain_header(held)) {
-        let field = held.header[0];
+    if held.shares.is_empty() && held.header == plain_header(held) {
+        let (field, script) = (held.header[0], list(&held.script));
+        let (number, place) = (left.answer.number, left.answer.place);
         return vec![format!("scripted {field} {script} {number} {place}")];
     }
+    stopped("stopped", held, &left)
+}
+
+/// The rows say who is present.
+fn present_rows(all: &[Held]) -> Vec<Row> {
+    all.iter()
+        .map(|held| (held.says.to_string(), present_row(held)))
+        .collect()
+}
+
+fn present_row(held: &Held) -> Vec<String> {
+    let left = held.left();
+    let present = held.present;
+    if is_untouched(held, &left) {
+        stopped(&format!("stoppedBy {present}"), held, &left)
+    } else {
+        ran(&format!("ranBy {present}"), held, &left)
+    }
+}
+
+/// The sheet, the lengths of the buffers, and all that the run left.
+fn ran(form: &str, held: &Held, left: &Left) -> Vec<String> {
+    let (header, script, shares) = (list(&held.header), list(&held.script), list(&held.shares));
+    let (record, revealed) = (held.record, held.revealed);
     vec![
-        format!("stopped {header} {script}"),
+        format!("{form} {header} {script}"),
+        format!("{shares} {record} {revealed}"),
+        told(left),
+    ]
+}
+
+/// The sheet, number and place.
+fn stopped(form: &str, held: &Held, left: &Left) -> Vec<String> {
+    let (header, script, shares) = (list(&held.header), list(&held.script), list(&held.shares));
+    let (number, place) = (left.answer.number, left.answer.place);
+    vec![
+        format!("{form} {header} {script}"),
         format!("{shares} {number} {place}"),
     ]
 }

@@ -39,9 +39,9 @@ pub fn all() -> Vec<Case> {
 /// Every cell of the table is set, and both buffers are as long as a case may lend them.
 fn largest() -> Case {
     Case {
-        sheet: bench::largest(),
         record: LONGEST_RECORD,
         revealed: LONGEST_REVEALED,
+        ..Case::with_room(bench::largest())
     }
 }
 
