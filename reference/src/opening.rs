@@ -9,21 +9,23 @@ use crate::weights::weights_at;
 pub struct Opening {
     field: &'static Field,
     present: u8,
-    /// The lowest t + 1 present parties, each with its weight at 0.
-    working: Vec<(usize, u64)>,
+    /// The lowest t + 1 present parties.
+    lowest: Vec<u64>,
+    /// The weight at 0 of each of them.
+    weights: Vec<u64>,
 }
 
 impl Opening {
     /// The set is permitted, so t + 1 parties are found.
     pub fn new(field: &'static Field, present: u8, threshold: usize) -> Opening {
         let parties = (1..=MOST_PARTIES).filter(|&party| is_present(present, party));
-        let lowest: Vec<usize> = parties.take(threshold + 1).collect();
-        let points: Vec<u64> = lowest.iter().map(|&party| party as u64).collect();
-        let weights = weights_at(field, 0, &points);
+        let parties = parties.take(threshold + 1).map(|party| party as u64);
+        let lowest: Vec<u64> = parties.collect();
         Opening {
             field,
             present,
-            working: lowest.into_iter().zip(weights).collect(),
+            weights: weights_at(field, 0, &lowest),
+            lowest,
         }
     }
 
@@ -33,10 +35,10 @@ impl Opening {
 
     /// The value at 0 of the polynomial that the shares of the lowest t + 1 present parties lie on.
     pub fn value(&self, row: &Row) -> u64 {
-        let shares = self.working.iter();
-        shares.fold(0, |sum, &(party, weight)| {
-            let product = self.field.multiply(weight, row[party - 1]);
-            self.field.add(sum, product)
+        let parties = self.lowest.iter().zip(&self.weights);
+        parties.fold(0, |sum, (&party, &weight)| {
+            let share = row[party as usize - 1];
+            self.field.add(sum, self.field.multiply(weight, share))
         })
     }
 
