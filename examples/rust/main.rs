@@ -57,24 +57,24 @@ fn run_with(present: u8) -> (jundrethol::Ran, [u32; 9], u32) {
 }
 
 fn run_with_a_firm_absent() {
-    let (all, shown, value) = run_with(EVERYONE);
-    let (absent, seen, same_value) = run_with(PARTY_1_ABSENT);
+    let (all, whole, value) = run_with(EVERYONE);
+    let (absent, record, revealed) = run_with(PARTY_1_ABSENT);
     expect((all.number, absent.number) == (0, 0), "two of three parties are enough");
-    for (one, two) in seen.chunks(3).zip(shown.chunks(3)) {
-        println!("party 1 absent: opened {} {} {}, with everyone present {} {} {}", one[0], one[1], one[2], two[0], two[1], two[2]);
+    for (row, all) in record.chunks(3).zip(whole.chunks(3)) {
+        println!("party 1 absent: opened {} {} {}, with everyone present {} {} {}", row[0], row[1], row[2], all[0], all[1], all[2]);
     }
-    println!("party 1 absent: revealed {same_value}, with everyone present {value}");
+    println!("party 1 absent: revealed {revealed}, with everyone present {value}");
     let [_, inputs, masks, triples, openings, _] = absent.counts;
     let same = if absent.counts == all.counts { "the same" } else { "others" };
     println!("party 1 absent: inputs {inputs} masks {masks} triples {triples} openings {openings}, with everyone present {same}");
-    expect(absent.counts == all.counts && same_value == value, "values and counts are the same");
+    expect(absent.counts == all.counts && revealed == value, "values and counts are the same");
     expect(absent.registers == all.registers && absent.marks == all.marks, "the absent party's column is worked too");
-    for (i, share) in seen.into_iter().enumerate() {
-        let expected = if i % 3 == 0 { 13 } else { shown[i] };
+    for (i, share) in record.into_iter().enumerate() {
+        let expected = if i % 3 == 0 { 13 } else { whole[i] };
         expect(share == expected, "p stands for the absent share, and no other number differs");
     }
-    let worked = [3 * seen[1] + 11 * seen[2], 2 * shown[0] + 12 * shown[1]].map(|sum| sum % 13);
-    expect(worked[0] == worked[1], "3 times share 2 less 2 times share 3 is twice share 1 less share 2");
+    let (sum, whole_sum) = (3 * record[1] + 11 * record[2], 2 * whole[0] + 12 * whole[1]);
+    expect(sum % 13 == whole_sum % 13, "3 times share 2 less 2 times share 3 is twice share 1 less share 2");
     let (refused, ..) = run_with(0b100);
     expect(refused.number == 12 && refused.counts == [0; jundrethol::COUNTS_LENGTH], "one of three parties is too few");
     expect(run_with(EVERYONE | 0b1000).0.number == 12, "there is no party 4");

@@ -33,27 +33,27 @@ pub fn text(name: &str) -> Option<String> {
         "SheetCases" => Some(file(
             "The paper, \"Refused because of the input\": sheets that 1 to 8 refuse, and the last that they let through.",
             ("Case", "sheetCases"),
-            sheet_rows(&sheets::sheets()),
+            sheet_rows(&sheets::sheets(), sheet_row),
         )),
         "ScriptCases" => Some(file(
             "The paper, \"Refused because of the input\": scripts that 9 to 11 refuse, and the last that they let through.",
             ("Case", "scriptCases"),
-            sheet_rows(&sheets::scripts()),
+            sheet_rows(&sheets::scripts(), sheet_row),
         )),
         "RunCases" => Some(file(
             "The paper, \"Steps\" and \"Refused because of the state\": the commands that take no mask, and 21 to 26.",
             ("Case", "runCases"),
-            sheet_rows(&sheets::runs()),
+            sheet_rows(&sheets::runs(), sheet_row),
         )),
         "MaskCases" => Some(file(
             "The paper, \"Steps\": the commands that take a mask, with the rows that they open.",
             ("Case", "maskCases"),
-            sheet_rows(&sheets::masked()),
+            sheet_rows(&sheets::masked(), sheet_row),
         )),
         "PresentCases" => Some(file(
             "Request 5, \"A firm's machine is down\": runs with absent parties, and the sets that 12 refuses.",
             ("Case", "presentCases"),
-            present_rows(&sheets::present()),
+            sheet_rows(&sheets::present(), present_row),
         )),
         "EntryCases" => Some(file(
             "The paper, \"Fields and parties\", and request 4, \"Sum first, reduce after\": calls of the small entries, and what they answer.",
@@ -177,9 +177,9 @@ fn wrapped(part: &str) -> String {
     text.replace(TIE, " ")
 }
 
-fn sheet_rows(all: &[Held]) -> Vec<Row> {
+fn sheet_rows(all: &[Held], row: fn(&Held) -> Vec<String>) -> Vec<Row> {
     all.iter()
-        .map(|held| (held.says.to_string(), sheet_row(held)))
+        .map(|held| (held.says.to_string(), row(held)))
         .collect()
 }
 
@@ -197,13 +197,7 @@ fn sheet_row(held: &Held) -> Vec<String> {
     stopped("stopped", held, &left)
 }
 
-/// The rows say who is present.
-fn present_rows(all: &[Held]) -> Vec<Row> {
-    all.iter()
-        .map(|held| (held.says.to_string(), present_row(held)))
-        .collect()
-}
-
+/// A run that says who is present.
 fn present_row(held: &Held) -> Vec<String> {
     let left = held.left();
     let present = held.present;

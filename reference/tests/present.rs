@@ -70,11 +70,12 @@ fn stored_cases_with_a_permitted_set_are_the_run_with_everyone_otherwise() {
 #[test]
 fn every_other_byte_is_refused_with_12() {
     for (field, (n, t)) in (0..4).flat_map(|field| PERMITTED.map(|parties| (field, parties))) {
-        // CONST 0 1, REVEAL 0, END, and a byte more that would be refused with 4
+        // CONST 0 1, REVEAL 0, END
         let mut sheet = vec![field, n as u8, t as u8, 0, 0, 0, 0, 0, 0, 9, 0];
         sheet.extend([2, 0, 1, 0, 0, 0, 12, 0, 0]);
         for present in 0..=u8::MAX {
             let is_permitted = u32::from(present) < 1 << n && present.count_ones() > t;
+            // a byte more is refused with 4, which comes after 12
             for longer in [false, true] {
                 let mut sheet = sheet.clone();
                 sheet.extend(longer.then_some(0));

@@ -23,18 +23,20 @@ pub fn all(generator: &mut Generator) -> Vec<Case> {
     cases
 }
 
-/// The square of an input, revealed, in each field with each number of parties and each threshold.
+/// The square of an input, revealed.
+const SQUARE: [Command; 3] = [
+    Command::Load { d: 0 },
+    Command::Mul { d: 1, a: 0, b: 0 },
+    Command::Reveal { a: 1 },
+];
+
+/// In each field with each number of parties and each threshold.
 fn squares(generator: &mut Generator) -> Vec<Case> {
-    let commands = [
-        Command::Load { d: 0 },
-        Command::Mul { d: 1, a: 0, b: 0 },
-        Command::Reveal { a: 1 },
-    ];
     let mut cases = Vec::new();
     for (number, (n, t)) in (0..4).flat_map(|number| PERMITTED.map(|parties| (number, parties))) {
         let mut dealer = Dealer::new(generator, number, (n, t));
         let secret = dealer.random_value();
-        let sheet = Draft::deal(&mut dealer, &commands, &[secret], &[]).to_bytes();
+        let sheet = Draft::deal(&mut dealer, &SQUARE, &[secret], &[]).to_bytes();
         for present in chosen(generator, n as u8, t as u8) {
             cases.push(Case::with_room(sheet.clone()).with_present(present));
         }
@@ -100,17 +102,15 @@ fn bad_sets() -> Vec<Case> {
     let mut cases = Vec::new();
     for (n, t) in PERMITTED.map(|(n, t)| (n as u8, t as u8)) {
         let sheet = vec![0, n, t, 0, 0, 0, 0, 0, 0, 1, 0, 0];
-        let few = sets_of(n, t);
-        let mut sets = vec![0];
-        sets.extend(few.first().into_iter().chain(few.last()));
+        let highest = everyone(n) - everyone(n - t);
+        let mut sets = vec![0, everyone(t), highest];
         for party in usize::from(n) + 1..=8 {
             let others = [everyone(n), everyone(t + 1), everyone(t), 0];
             sets.extend(others.map(|others| others | bit(party)));
         }
-        cases.extend(
-            sets.into_iter()
-                .map(|present| Case::with_room(sheet.clone()).with_present(present)),
-        );
+        for present in sets {
+            cases.push(Case::with_room(sheet.clone()).with_present(present));
+        }
     }
     cases
 }
@@ -118,26 +118,19 @@ fn bad_sets() -> Vec<Case> {
 /// A set that 12 refuses, and a sheet that another number refuses.
 fn two_faults(generator: &mut Generator) -> Vec<Case> {
     let draft = one_of_each(generator);
-    let mut cases = Vec::new();
-    for ((_, fault), present) in faults()
-        .into_iter()
-        .zip([0b000, 0b010, 0b1111].into_iter().cycle())
-    {
+    let sets = [0b000, 0b010, 0b1111].into_iter().cycle();
+    let faults = faults().into_iter().zip(sets);
+    let both = |((_, fault), present)| {
         let sheet = with_faults(generator, draft.clone(), vec![fault]);
-        cases.push(Case::with_room(sheet).with_present(present));
-    }
-    cases
+        Case::with_room(sheet).with_present(present)
+    };
+    faults.map(both).collect()
 }
 
 /// Three parties in field 0: an input in row 0, a mask in rows 1 to 4 and a triple in rows 5 to 7.
 fn one_of_each(generator: &mut Generator) -> Draft {
-    let commands = [
-        Command::Load { d: 0 },
-        Command::Mul { d: 1, a: 0, b: 0 },
-        Command::Reveal { a: 1 },
-    ];
     let mut dealer = Dealer::new(generator, 0, (3, 1));
-    Draft::deal(&mut dealer, &commands, &[5], &[12])
+    Draft::deal(&mut dealer, &SQUARE, &[5], &[12])
 }
 
 /// The number that each fault alone is refused with.
