@@ -1,6 +1,7 @@
-/* How deep the stack goes in a run of each sheet named and in turning it to its column form and back, in each small entry, and in an import: a call
- * is made on a stack that was filled with one byte, and the lowest byte that changed tells. Two fillings, so that a byte that happens to be the
- * filling is seen. Exits with 1 if a call goes deeper than JUNDRETHOL_STACK, answers another number than it must, or a sheet cannot be read. */
+/* How deep the stack goes in a run of each sheet named, with everyone present and with party 1 absent, in turning it to its column form and back, in
+ * each small entry, and in an import: a call is made on a stack that was filled with one byte, and the lowest byte that changed tells. Two fillings,
+ * so that a byte that happens to be the filling is seen. Exits with 1 if a call goes deeper than JUNDRETHOL_STACK, answers another number than it
+ * must, or a sheet cannot be read. */
 #define _GNU_SOURCE
 #include <stdio.h>
 #include <string.h>
@@ -15,7 +16,7 @@ static ucontext_t here, there;
 static uintptr_t top;
 static uint32_t answer;
 
-static uint8_t sheet[JUNDRETHOL_SHEET_LENGTH];
+static uint8_t sheet[JUNDRETHOL_SHEET_LENGTH], present;
 static size_t sheet_length;
 
 static void run(void)
@@ -24,7 +25,7 @@ static void run(void)
     static uint8_t marks[JUNDRETHOL_MARKS_LENGTH];
     static uint64_t counts[JUNDRETHOL_COUNTS_LENGTH];
     top = (uintptr_t)__builtin_frame_address(0);
-    answer = jundrethol_run(sheet, sheet_length, record, JUNDRETHOL_RECORD_LENGTH, revealed, JUNDRETHOL_REVEALED_LENGTH, registers,
+    answer = jundrethol_run(sheet, sheet_length, present, record, JUNDRETHOL_RECORD_LENGTH, revealed, JUNDRETHOL_REVEALED_LENGTH, registers,
                             JUNDRETHOL_REGISTERS_LENGTH, marks, JUNDRETHOL_MARKS_LENGTH, counts, JUNDRETHOL_COUNTS_LENGTH);
 }
 
@@ -129,7 +130,10 @@ int main(int count, char **names)
             return 1;
         sheet_length = fread(sheet, 1, sizeof sheet, file);
         fclose(file);
+        present = (uint8_t)((1 << sheet[1]) - 1);
         good &= fits(names[i], run, ANY);
+        present = (uint8_t)(present & ~1);
+        good &= fits("  party 1 absent", run, ANY);
         good &= fits("  to columns", to_columns, JUNDRETHOL_DONE);
         good &= fits("  to sheet", to_sheet, JUNDRETHOL_DONE);
     }

@@ -34,10 +34,10 @@ extern "C" {
  * numbers, functions their parameters, and a function call that answers 0, 21 to 26 or 31 to 33 leaves the same values. A higher second number
  * may add functions, refusals, and counts after the last, and may accept what was refused with 1 to 20, but for 15: an output that is shorter
  * than the input stays refused. Where the first number grows, the second starts at 0. */
-#define JUNDRETHOL_VERSION_MAJOR 2
-#define JUNDRETHOL_VERSION_MINOR 2
+#define JUNDRETHOL_VERSION_MAJOR 3
+#define JUNDRETHOL_VERSION_MINOR 0
 
-/* What every function answers: 0, or the first of the others that applies. */
+/* What every function answers: 0, or the first of the others that applies. 12 comes after 3 and before 4. */
 #define JUNDRETHOL_DONE 0
 
 /* The input is refused, or the output for it, and nothing is run or turned. */
@@ -52,6 +52,7 @@ extern "C" {
 #define JUNDRETHOL_BAD_COMMAND 9   /* a command byte is over 0x0D */
 #define JUNDRETHOL_BAD_END 10      /* operands are cut off, END is missing, or bytes follow it */
 #define JUNDRETHOL_OUT_OF_RANGE 11 /* an operand, k or a signed number is out of range */
+#define JUNDRETHOL_BAD_PRESENT 12  /* a bit beyond n is set in present, or fewer than t + 1 parties are present */
 #define JUNDRETHOL_OUTPUT_SHORT 15 /* the output is shorter than the input */
 
 /* A command is refused because of the state: those before it stand, and it changes nothing. */
@@ -92,7 +93,11 @@ extern "C" {
 
 /* Runs a sheet.
  *
- * record     gets n shares for each opening, party 1's first, in order: counts[JUNDRETHOL_COUNT_OPENINGS] times n numbers.
+ * present    says which parties are present: bit j - 1, counted from the lowest, says that party j is. Everyone is (1 << n) - 1. An opened value is
+ *            worked from the shares of the lowest t + 1 present parties. The sheet has the shares of absent parties all the same, and their
+ *            columns are worked like the others. Values, registers, marks and counts are the same for every set that 12 does not refuse.
+ * record     gets n numbers for each opening, party 1's first, in order: counts[JUNDRETHOL_COUNT_OPENINGS] times n numbers. They are the shares
+ *            that are opened; p itself, which is no share, stands for an absent one.
  * revealed   gets the values of the finished REVEALs in order: counts[JUNDRETHOL_COUNT_REVEALED] numbers.
  * registers  gets 448 cells: party j's share in register r is registers[7 * r + j - 1]. Cells past n and those of unset registers are 0.
  * marks      gets 64 bytes: 1 where the register is set, else 0.
@@ -101,12 +106,12 @@ extern "C" {
  * Past what is written every list is unchanged. The lengths of record and revealed decide 25 and 26, by which the run stops. The other three
  * decide nothing: a list that is too short gets as many numbers as it has places for, so a caller without use for it lends a length of 0.
  *
- * Answers 0, and the place is END's offset in the script. 1 to 11: nothing is run, record and revealed are unchanged, and registers, marks
+ * Answers 0, and the place is END's offset in the script. 1 to 12: nothing is run, record and revealed are unchanged, and registers, marks
  * and counts get 0, but for the place in 9 to 11, the offset of what is refused. 21 to 26: what the commands before the refused one left
  * stands, and the place is the refused command's offset.
  */
 uint32_t jundrethol_run(
-    const uint8_t *sheet, size_t sheet_length,
+    const uint8_t *sheet, size_t sheet_length, uint8_t present,
     uint32_t *record, size_t record_length,
     uint32_t *revealed, size_t revealed_length,
     uint32_t *registers, size_t registers_length,

@@ -1,5 +1,6 @@
-/* The paper's MUL sheet run through the C ABI, a secret shared, recovered and summed, numbers encoded and decoded, calls taken from an exchange's
- * list, and the sheet cut into the parties' parts and put together again. Exits with 1 if an answer is wrong. */
+/* The paper's MUL sheet run through the C ABI, and once more with a firm's machine down; a secret shared, recovered and summed, numbers encoded and
+ * decoded, calls taken from an exchange's list, and the sheet cut into the parties' parts and put together again. Exits with 1 if an answer is
+ * wrong. */
 #include <inttypes.h>
 #include <stdio.h>
 #include <stdlib.h>
@@ -7,8 +8,8 @@
 
 #include "jundrethol.h"
 
-#if JUNDRETHOL_VERSION_MAJOR != 2 || JUNDRETHOL_VERSION_MINOR < 2
-#error "written for version 2 of the library, from 2.2 on"
+#if JUNDRETHOL_VERSION_MAJOR != 3
+#error "written for version 3 of the library"
 #endif
 
 #define COUNT(list) (sizeof(list) / sizeof((list)[0]))
@@ -56,6 +57,10 @@ static void print_run(const uint32_t *record, const uint32_t *revealed, const ui
            counts[JUNDRETHOL_COUNT_TRIPLES], counts[JUNDRETHOL_COUNT_OPENINGS]);
 }
 
+/* Three parties: bit 0 is party 1's, bit 1 party 2's, bit 2 party 3's. */
+#define EVERYONE 0x07
+#define PARTY_1_ABSENT 0x06
+
 static void run_sheet(void)
 {
     static uint8_t sheet[128];
@@ -63,7 +68,7 @@ static void run_sheet(void)
     static uint8_t marks[JUNDRETHOL_MARKS_LENGTH];
     static uint64_t counts[JUNDRETHOL_COUNTS_LENGTH];
     size_t length = make_sheet(sheet);
-    uint32_t number = jundrethol_run(sheet, length, record, COUNT(record), revealed, COUNT(revealed), registers, COUNT(registers), marks,
+    uint32_t number = jundrethol_run(sheet, length, EVERYONE, record, COUNT(record), revealed, COUNT(revealed), registers, COUNT(registers), marks,
                                      COUNT(marks), counts, COUNT(counts));
     print_run(record, revealed, counts, number);
     expect(number == JUNDRETHOL_DONE && revealed[0] == 2, "5 times 3 is 2 modulo 13");
@@ -72,9 +77,48 @@ static void run_sheet(void)
     /* A byte too few is a wrong length; of lists that are too short the rest stays. */
     registers[0] = 99;
     counts[1] = 99;
-    number = jundrethol_run(sheet, length - 1, record, COUNT(record), revealed, COUNT(revealed), registers, 0, marks, 0, counts, 1);
+    number = jundrethol_run(sheet, length - 1, EVERYONE, record, COUNT(record), revealed, COUNT(revealed), registers, 0, marks, 0, counts, 1);
     expect(number == JUNDRETHOL_BAD_LENGTH, "a cut sheet has the wrong length");
     expect(registers[0] == 99 && counts[0] == 0 && counts[1] == 99 && record[0] == 5, "what has no place is not written");
+}
+
+/* What a run leaves. The MUL sheet opens three rows of three shares and reveals one value. */
+struct ran {
+    uint32_t number, record[9], revealed[1], registers[JUNDRETHOL_REGISTERS_LENGTH];
+    uint64_t counts[JUNDRETHOL_COUNTS_LENGTH];
+};
+
+static void run_with(uint8_t present, struct ran *ran)
+{
+    static uint8_t sheet[128], marks[JUNDRETHOL_MARKS_LENGTH];
+    ran->number = jundrethol_run(sheet, make_sheet(sheet), present, ran->record, COUNT(ran->record), ran->revealed, COUNT(ran->revealed),
+                                 ran->registers, COUNT(ran->registers), marks, COUNT(marks), ran->counts, COUNT(ran->counts));
+}
+
+static void run_with_a_firm_absent(void)
+{
+    static struct ran all, absent, refused;
+    run_with(EVERYONE, &all);
+    run_with(PARTY_1_ABSENT, &absent);
+    expect(all.number == JUNDRETHOL_DONE && absent.number == JUNDRETHOL_DONE, "two of three parties are enough");
+    for (size_t i = 0; i < COUNT(all.record); i += 3)
+        printf("party 1 absent: opened %" PRIu32 " %" PRIu32 " %" PRIu32 ", with everyone present %" PRIu32 " %" PRIu32 " %" PRIu32 "\n",
+               absent.record[i], absent.record[i + 1], absent.record[i + 2], all.record[i], all.record[i + 1], all.record[i + 2]);
+    printf("party 1 absent: revealed %" PRIu32 ", with everyone present %" PRIu32 "\n", absent.revealed[0], all.revealed[0]);
+    int same = memcmp(absent.counts, all.counts, sizeof all.counts) == 0;
+    printf("party 1 absent: inputs %" PRIu64 " masks %" PRIu64 " triples %" PRIu64 " openings %" PRIu64 ", with everyone present %s\n",
+           absent.counts[JUNDRETHOL_COUNT_INPUTS], absent.counts[JUNDRETHOL_COUNT_MASKS], absent.counts[JUNDRETHOL_COUNT_TRIPLES],
+           absent.counts[JUNDRETHOL_COUNT_OPENINGS], same ? "the same" : "others");
+    expect(same && absent.revealed[0] == all.revealed[0], "values and counts are the same");
+    expect(memcmp(absent.registers, all.registers, sizeof all.registers) == 0, "the absent party's column is worked too");
+    for (size_t i = 0; i < COUNT(all.record); i++)
+        expect(absent.record[i] == (i % 3 == 0 ? 13 : all.record[i]), "p stands for the absent share, and no other number differs");
+    expect((3 * absent.record[1] + 11 * absent.record[2]) % 13 == (2 * all.record[0] + 12 * all.record[1]) % 13,
+           "3 times share 2 less 2 times share 3 is twice share 1 less share 2");
+    run_with(0x04, &refused);
+    expect(refused.number == JUNDRETHOL_BAD_PRESENT && refused.counts[JUNDRETHOL_COUNT_OPENINGS] == 0, "one of three parties is too few");
+    run_with(EVERYONE | 0x08, &refused);
+    expect(refused.number == JUNDRETHOL_BAD_PRESENT, "there is no party 4");
 }
 
 static void share_and_recover(void)
@@ -213,6 +257,7 @@ static void cut_and_join(void)
 int main(void)
 {
     run_sheet();
+    run_with_a_firm_absent();
     share_and_recover();
     encode_and_decode();
     import_calls();

@@ -4,6 +4,7 @@ extern "C" {
     pub fn jundrethol_run(
         sheet: *const u8,
         sheet_length: usize,
+        present: u8,
         record: *mut u32,
         record_length: usize,
         revealed: *mut u32,

@@ -22,15 +22,17 @@ pub struct Ran {
     pub counts: [u64; COUNTS_LENGTH],
 }
 
-pub fn run(sheet: &[u8], record: &mut [u32], revealed: &mut [u32]) -> Ran {
+/// Bit j - 1 of present says that party j is present.
+pub fn run(sheet: &[u8], present: u8, record: &mut [u32], revealed: &mut [u32]) -> Ran {
     let mut ran = Ran { number: 0, registers: [0; REGISTERS_LENGTH], marks: [0; MARKS_LENGTH], counts: [0; COUNTS_LENGTH] };
-    ran.number = run_lent(sheet, record, revealed, &mut ran.registers, &mut ran.marks, &mut ran.counts);
+    ran.number = run_lent(sheet, present, record, revealed, &mut ran.registers, &mut ran.marks, &mut ran.counts);
     ran
 }
 
 /// The run with lists of any length for registers, marks and counts.
 pub fn run_lent(
     sheet: &[u8],
+    present: u8,
     record: &mut [u32],
     revealed: &mut [u32],
     registers: &mut [u32],
@@ -41,6 +43,7 @@ pub fn run_lent(
         c::jundrethol_run(
             sheet.as_ptr(),
             sheet.len(),
+            present,
             record.as_mut_ptr(),
             record.len(),
             revealed.as_mut_ptr(),

@@ -1,5 +1,6 @@
-//! The paper's MUL sheet run through the C ABI, a secret shared, recovered and summed, numbers encoded and decoded, calls taken from an exchange's
-//! list, and the sheet cut into the parties' parts and put together again. Exits with 1 if an answer is wrong.
+//! The paper's MUL sheet run through the C ABI, and once more with a firm's machine down; a secret shared, recovered and summed, numbers encoded and
+//! decoded, calls taken from an exchange's list, and the sheet cut into the parties' parts and put together again. Exits with 1 if an answer is
+//! wrong.
 mod jundrethol;
 
 use std::process::exit;
@@ -23,11 +24,15 @@ fn make_sheet() -> Vec<u8> {
     sheet
 }
 
+/// Three parties: bit 0 is party 1's, bit 1 party 2's, bit 2 party 3's.
+const EVERYONE: u8 = 0b111;
+const PARTY_1_ABSENT: u8 = 0b110;
+
 fn run_sheet() {
     let sheet = make_sheet();
     let mut record = vec![0; jundrethol::RECORD_LENGTH];
     let mut revealed = vec![0; jundrethol::REVEALED_LENGTH];
-    let ran = jundrethol::run(&sheet, &mut record, &mut revealed);
+    let ran = jundrethol::run(&sheet, EVERYONE, &mut record, &mut revealed);
     let [place, inputs, masks, triples, openings, values] = ran.counts;
     for shares in record.chunks(3).take(openings as usize) {
         println!("opened {} {} {}", shares[0], shares[1], shares[2]);
@@ -40,8 +45,39 @@ fn run_sheet() {
     expect(ran.number == 0 && revealed[0] == 2, "5 times 3 is 2 modulo 13");
     expect(ran.registers[14..18] == [7, 12, 4, 0], "register 2 shares the product");
     expect(ran.marks[2] == 1 && ran.marks[3] == 0, "three registers are set");
-    let cut = jundrethol::run(&sheet[..sheet.len() - 1], &mut record, &mut revealed);
+    let cut = jundrethol::run(&sheet[..sheet.len() - 1], EVERYONE, &mut record, &mut revealed);
     expect(cut.number == 4 && cut.counts == [0; jundrethol::COUNTS_LENGTH] && record[0] == 5, "a cut sheet is refused by 4");
+}
+
+/// What a run of the MUL sheet leaves: it opens three rows of three shares and reveals one value.
+fn run_with(present: u8) -> (jundrethol::Ran, [u32; 9], u32) {
+    let (mut record, mut revealed) = ([0; 9], [0; 1]);
+    let ran = jundrethol::run(&make_sheet(), present, &mut record, &mut revealed);
+    (ran, record, revealed[0])
+}
+
+fn run_with_a_firm_absent() {
+    let (all, whole, value) = run_with(EVERYONE);
+    let (absent, record, revealed) = run_with(PARTY_1_ABSENT);
+    expect((all.number, absent.number) == (0, 0), "two of three parties are enough");
+    for (row, all) in record.chunks(3).zip(whole.chunks(3)) {
+        println!("party 1 absent: opened {} {} {}, with everyone present {} {} {}", row[0], row[1], row[2], all[0], all[1], all[2]);
+    }
+    println!("party 1 absent: revealed {revealed}, with everyone present {value}");
+    let [_, inputs, masks, triples, openings, _] = absent.counts;
+    let same = if absent.counts == all.counts { "the same" } else { "others" };
+    println!("party 1 absent: inputs {inputs} masks {masks} triples {triples} openings {openings}, with everyone present {same}");
+    expect(absent.counts == all.counts && revealed == value, "values and counts are the same");
+    expect(absent.registers == all.registers && absent.marks == all.marks, "the absent party's column is worked too");
+    for (i, share) in record.into_iter().enumerate() {
+        let expected = if i % 3 == 0 { 13 } else { whole[i] };
+        expect(share == expected, "p stands for the absent share, and no other number differs");
+    }
+    let (sum, whole_sum) = (3 * record[1] + 11 * record[2], 2 * whole[0] + 12 * whole[1]);
+    expect(sum % 13 == whole_sum % 13, "3 times share 2 less 2 times share 3 is twice share 1 less share 2");
+    let (refused, ..) = run_with(0b100);
+    expect(refused.number == 12 && refused.counts == [0; jundrethol::COUNTS_LENGTH], "one of three parties is too few");
+    expect(run_with(EVERYONE | 0b1000).0.number == 12, "there is no party 4");
 }
 
 fn share_and_recover() {
@@ -143,6 +179,7 @@ fn cut_and_join() {
 
 fn main() {
     run_sheet();
+    run_with_a_firm_absent();
     share_and_recover();
     encode_and_decode();
     import_calls();

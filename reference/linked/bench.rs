@@ -16,6 +16,7 @@ use std::process::ExitCode;
 use reference::calls;
 use reference::columns::Way;
 use reference::compare::{Imported, Lengths, Ran, Turned};
+use reference::present::everyone_of;
 use reference::run::run;
 use reference::sheets::bench;
 use reference::table::{RECORD, REVEALED};
@@ -38,9 +39,10 @@ const ROUNDS: usize = 2001;
 /// The lines of the list.
 const LINES: usize = 10_000;
 
-/// The run of a sheet.
+/// The run of a sheet with everyone present.
 struct Runs<'a> {
     sheet: &'a [u8],
+    present: u8,
     library: Ran,
     reference: Ran,
 }
@@ -50,6 +52,7 @@ impl Runs<'_> {
         let before = Ran::before(RECORD, REVEALED, Lengths::WHOLE);
         Runs {
             sheet,
+            present: everyone_of(sheet),
             library: before.clone(),
             reference: before,
         }
@@ -59,12 +62,12 @@ impl Runs<'_> {
 impl Sides for Runs<'_> {
     fn agree(&mut self) -> Result<(), String> {
         self.by_library();
-        self.reference.by_reference(self.sheet);
+        self.reference.by_reference(self.sheet, self.present);
         self.reference.difference(&self.library).map_or(Ok(()), Err)
     }
 
     fn by_library(&mut self) {
-        library::run(&mut self.library, black_box(self.sheet));
+        library::run(&mut self.library, black_box(self.sheet), self.present);
         black_box(&mut self.library);
     }
 
@@ -72,7 +75,7 @@ impl Sides for Runs<'_> {
     fn by_reference(&mut self) {
         let ran = &mut self.reference;
         let sheet = black_box(self.sheet);
-        black_box(run(sheet, &mut ran.record, &mut ran.revealed));
+        black_box(run(sheet, self.present, &mut ran.record, &mut ran.revealed));
     }
 }
 

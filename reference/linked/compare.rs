@@ -1,15 +1,15 @@
 //! Holds the proved library to the reference: the stored sheets, entries, lists and inputs of the column
 //! form, then drawn ones.
 //!
-//! `reference/link` builds it. Of a run are compared number, place and counts, marks, register
-//! cells, and both buffers to their last number; of a small entry (share, recover, encode, decode,
-//! sum) number, value and the lent list, and of a sum also the remainder by p with the secret that the
-//! library recovers from the same row; of the import of a list of calls number, how many calls were
-//! written, and the buffer to its last number; of the column form, there and back, number and the
-//! output to its last byte. Lists of numbers are filled before with numbers that are never written, so
-//! that a number too many, too few or left over is seen. Every byte can be written to an output of the
-//! column form, so it is filled with bytes that change from place to place. The lists for registers,
-//! marks and counts are at times too short or too long.
+//! `reference/link` builds it. A sheet is run with any byte that says who is present. Of a run are
+//! compared number, place and counts, marks, register cells, and both buffers to their last number; of a
+//! small entry (share, recover, encode, decode, sum) number, value and the lent list, and of a sum also
+//! the remainder by p with the secret that the library recovers from the same row; of the import of a
+//! list of calls number, how many calls were written, and the buffer to its last number; of the column
+//! form, there and back, number and the output to its last byte. Lists of numbers are filled before with
+//! numbers that are never written, so that a number too many, too few or left over is seen. Every byte
+//! can be written to an output of the column form, so it is filled with bytes that change from place to
+//! place. The lists for registers, marks and counts are at times too short or too long.
 
 mod entries;
 mod library;
@@ -27,6 +27,7 @@ use reference::columns;
 use reference::columns::drawn::turn_for;
 use reference::compare::summed::{recovery, recovery_difference};
 use reference::compare::{Entered, Imported, Lengths, Ran, Turned};
+use reference::present::everyone_of;
 use reference::run_case;
 use reference::sheets::{self, sheet_for};
 
@@ -34,11 +35,12 @@ const USAGE: &str = "\
 usage: compare SEED COUNT [FIRST]
 
 Compares the proved library with the reference: all that is stored, COUNT sheets drawn from SEED
-and the indices FIRST, FIRST + 1, ... (FIRST is 0 if left out), and for each of them 5 calls of
-small entries (4 of share, recover, encode or decode, and one of sum), the import of a list of calls,
-and an input turned to the column form or to the sheet. A sum's remainder is compared also with the
-secret that the library recovers from the same row. The last line tells how many were compared and
-how many differ. Exits with 1 if any does, with 2 if the arguments are wrong.
+and the indices FIRST, FIRST + 1, ... (FIRST is 0 if left out), each with a drawn set of present
+parties, permitted or not, and for each of them 5 calls of small entries (4 of share, recover, encode
+or decode, and one of sum), the import of a list of calls, and an input turned to the column form or
+to the sheet. A sum's remainder is compared also with the secret that the library recovers from the
+same row. The last line tells how many were compared and how many differ. Exits with 1 if any does,
+with 2 if the arguments are wrong.
 
 Build it with bash reference/link, after rt staticlib jundrethol.";
 
@@ -60,6 +62,8 @@ type Numbers = BTreeMap<u32, u64>;
 #[derive(Default)]
 struct Tally {
     runs: Numbers,
+    /// How many of them were runs of accepted sheets with a party absent.
+    absent: u64,
     entries: u64,
     sums: Numbers,
     imports: Numbers,
@@ -71,15 +75,18 @@ impl Tally {
     fn run(&mut self, name: &str, case: &run_case::Case, lengths: Lengths) {
         let mut reference = Ran::before(case.record, case.revealed, lengths);
         let mut library = reference.clone();
-        reference.by_reference(&case.sheet);
-        library::run(&mut library, &case.sheet);
+        reference.by_reference(&case.sheet, case.present);
+        library::run(&mut library, &case.sheet, case.present);
         *self.runs.entry(reference.number).or_default() += 1;
+        let is_accepted = !(1..=12).contains(&reference.number);
+        let is_absent = case.present != everyone_of(&case.sheet);
+        self.absent += u64::from(is_accepted && is_absent);
         if let Some(difference) = reference.difference(&library) {
-            let (record, revealed) = (case.record, case.revealed);
+            let (present, record, revealed) = (case.present, case.record, case.revealed);
             let shown = &case.sheet[..case.sheet.len().min(SHOWN)];
             let length = case.sheet.len();
             self.differs(format!(
-                "{name}: {difference}\n  record {record} revealed {revealed} {lengths:?}\n  \
+                "{name}: {difference}\n  present {present:08b} record {record} revealed {revealed} {lengths:?}\n  \
                  sheet of {length} bytes: {shown:?}"
             ));
         }
@@ -170,6 +177,7 @@ impl Tally {
 
     fn tell(&self) {
         println!("runs by number: {}", told(&self.runs));
+        println!("accepted with a party absent: {}", self.absent);
         println!("sums by number: {}", told(&self.sums));
         println!("lists by number: {}", told(&self.imports));
         println!("turned by number: {}", told(&self.turns));

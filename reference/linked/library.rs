@@ -11,10 +11,11 @@ mod jundrethol;
 #[allow(unused_imports)]
 pub use jundrethol::c;
 
-/// Runs the sheet.
-pub fn run(ran: &mut Ran, sheet: &[u8]) {
+/// Runs the sheet with these parties present.
+pub fn run(ran: &mut Ran, sheet: &[u8], present: u8) {
     ran.number = jundrethol::run_lent(
         sheet,
+        present,
         &mut ran.record,
         &mut ran.revealed,
         &mut ran.registers,

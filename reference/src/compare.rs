@@ -76,9 +76,9 @@ impl Ran {
         }
     }
 
-    /// Runs the sheet by the reference.
-    pub fn by_reference(&mut self, sheet: &[u8]) {
-        let answer = run::run(sheet, &mut self.record, &mut self.revealed);
+    /// Runs the sheet by the reference, with these parties present.
+    pub fn by_reference(&mut self, sheet: &[u8], present: u8) {
+        let answer = run::run(sheet, present, &mut self.record, &mut self.revealed);
         self.number = answer.number;
         put(&mut self.registers, answer.registers.into_iter().flatten());
         put(&mut self.marks, answer.set.into_iter().map(u8::from));
@@ -227,11 +227,12 @@ fn list_difference<T: PartialEq + Display>(
 mod tests {
     use super::*;
     use crate::cases::{case_for, sum_for};
+    use crate::present::everyone;
     use crate::sheets::{bench, sheet_for};
 
     fn ran(lengths: Lengths) -> Ran {
         let mut ran = Ran::before(12, 3, lengths);
-        ran.by_reference(&bench::small());
+        ran.by_reference(&bench::small(), everyone(3));
         ran
     }
 
@@ -299,7 +300,7 @@ mod tests {
         let case = sheet_for(1, 0);
         let before = Ran::before(case.record, case.revealed, Lengths::WHOLE);
         let mut ran = before.clone();
-        ran.by_reference(&case.sheet[..10]);
+        ran.by_reference(&case.sheet[..10], case.present);
         assert_eq!((ran.number, &ran.counts), (1, &vec![0; COUNTS]));
         assert_eq!((ran.registers, ran.marks), (vec![0; CELLS], vec![0; MARKS]));
         assert_eq!((ran.record, ran.revealed), (before.record, before.revealed));

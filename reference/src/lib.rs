@@ -11,6 +11,8 @@ pub mod dealer;
 pub mod field;
 pub mod line;
 pub mod model_cases;
+pub mod opening;
+pub mod present;
 pub mod refusal;
 pub mod row;
 pub mod run;

@@ -18,7 +18,7 @@ cases             writes the stored calls of the small entries
 answers           reads such calls and writes their answers
 step-cases        writes the stored cases of the steps
 step-answers      writes the answers to those
-run-cases         writes the stored sheets, each with the lengths of its lent buffers
+run-cases         writes the stored sheets, each with the lengths of its lent buffers and who is present
 run-answers       reads such sheets and writes all that each run leaves
 call-cases        writes the stored lists of calls, each with the length of its lent buffer
 call-answers      reads such lists and writes all that each import leaves

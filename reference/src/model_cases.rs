@@ -7,11 +7,12 @@ use crate::columns::{held as turns, Way};
 use crate::compare::Entered;
 use crate::sheets::held::{self as sheets, Held, Left};
 
-pub const NAMES: [&str; 7] = [
+pub const NAMES: [&str; 8] = [
     "SheetCases",
     "ScriptCases",
     "RunCases",
     "MaskCases",
+    "PresentCases",
     "EntryCases",
     "CallCases",
     "ColumnCases",
@@ -32,22 +33,27 @@ pub fn text(name: &str) -> Option<String> {
         "SheetCases" => Some(file(
             "The paper, \"Refused because of the input\": sheets that 1 to 8 refuse, and the last that they let through.",
             ("Case", "sheetCases"),
-            sheet_rows(&sheets::sheets()),
+            sheet_rows(&sheets::sheets(), sheet_row),
         )),
         "ScriptCases" => Some(file(
             "The paper, \"Refused because of the input\": scripts that 9 to 11 refuse, and the last that they let through.",
             ("Case", "scriptCases"),
-            sheet_rows(&sheets::scripts()),
+            sheet_rows(&sheets::scripts(), sheet_row),
         )),
         "RunCases" => Some(file(
             "The paper, \"Steps\" and \"Refused because of the state\": the commands that take no mask, and 21 to 26.",
             ("Case", "runCases"),
-            sheet_rows(&sheets::runs()),
+            sheet_rows(&sheets::runs(), sheet_row),
         )),
         "MaskCases" => Some(file(
             "The paper, \"Steps\": the commands that take a mask, with the rows that they open.",
             ("Case", "maskCases"),
-            sheet_rows(&sheets::masked()),
+            sheet_rows(&sheets::masked(), sheet_row),
+        )),
+        "PresentCases" => Some(file(
+            "Request 5, \"A firm's machine is down\": runs with absent parties, and the sets that 12 refuses.",
+            ("Case", "presentCases"),
+            sheet_rows(&sheets::present(), present_row),
         )),
         "EntryCases" => Some(file(
             "The paper, \"Fields and parties\", and request 4, \"Sum first, reduce after\": calls of the small entries, and what they answer.",
@@ -100,7 +106,9 @@ fn file(subject: &str, (kind, name): (&str, &str), rows: Vec<Row>) -> String {
     }
     let forms = used(&[
         "ran",
+        "ranBy",
         "stopped",
+        "stoppedBy",
         "scripted",
         "shared",
         "recovered",
@@ -169,31 +177,54 @@ fn wrapped(part: &str) -> String {
     text.replace(TIE, " ")
 }
 
-fn sheet_rows(all: &[Held]) -> Vec<Row> {
+fn sheet_rows(all: &[Held], row: fn(&Held) -> Vec<String>) -> Vec<Row> {
     all.iter()
-        .map(|held| (held.says.to_string(), sheet_row(held)))
+        .map(|held| (held.says.to_string(), row(held)))
         .collect()
 }
 
-/// A run that did nothing is told by its number and place.
+/// A run with everyone present. One that did nothing is told by its number and place.
 fn sheet_row(held: &Held) -> Vec<String> {
     let left = held.left();
-    let (number, place) = (left.answer.number, left.answer.place);
-    let (header, script, shares) = (list(&held.header), list(&held.script), list(&held.shares));
     if !is_untouched(held, &left) {
-        let (record, revealed) = (held.record, held.revealed);
-        return vec![
-            format!("ran {header} {script}"),
-            format!("{shares} {record} {revealed}"),
-            told(&left),
-        ];
+        return ran("ran", held, &left);
     }
-    if held.shares.is_empty() && header == list(&plain_header(held)) {
-        let field = held.header[0];
+    if held.shares.is_empty() && held.header == plain_header(held) {
+        let (field, script) = (held.header[0], list(&held.script));
+        let (number, place) = (left.answer.number, left.answer.place);
         return vec![format!("scripted {field} {script} {number} {place}")];
     }
+    stopped("stopped", held, &left)
+}
+
+/// A run that says who is present.
+fn present_row(held: &Held) -> Vec<String> {
+    let left = held.left();
+    let present = held.present;
+    if is_untouched(held, &left) {
+        stopped(&format!("stoppedBy {present}"), held, &left)
+    } else {
+        ran(&format!("ranBy {present}"), held, &left)
+    }
+}
+
+/// The sheet, the lengths of the buffers, and all that the run left.
+fn ran(form: &str, held: &Held, left: &Left) -> Vec<String> {
+    let (header, script, shares) = (list(&held.header), list(&held.script), list(&held.shares));
+    let (record, revealed) = (held.record, held.revealed);
     vec![
-        format!("stopped {header} {script}"),
+        format!("{form} {header} {script}"),
+        format!("{shares} {record} {revealed}"),
+        told(left),
+    ]
+}
+
+/// The sheet, number and place.
+fn stopped(form: &str, held: &Held, left: &Left) -> Vec<String> {
+    let (header, script, shares) = (list(&held.header), list(&held.script), list(&held.shares));
+    let (number, place) = (left.answer.number, left.answer.place);
+    vec![
+        format!("{form} {header} {script}"),
         format!("{shares} {number} {place}"),
     ]
 }

@@ -24,6 +24,8 @@ pub const COMMAND: u32 = 9;
 pub const FORM: u32 = 10;
 /// An operand, k or the signed number is outside its range.
 pub const RANGE: u32 = 11;
+/// A bit beyond n is set in the byte of the present parties, or fewer than t + 1 of them are present.
+pub const PRESENT: u32 = 12;
 /// The output is shorter than the sheet.
 pub const OUTPUT_SHORT: u32 = 15;
 

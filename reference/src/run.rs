@@ -24,17 +24,18 @@ pub struct Answer {
     pub set: [bool; REGISTERS],
 }
 
-/// Writes the opened shares to `record` and the values read to `revealed`.
-pub fn run(sheet: &[u8], record: &mut [u32], revealed: &mut [u32]) -> Answer {
-    match accepted(sheet) {
+/// Runs the sheet with the parties present whose bits are set in `present`. Writes the opened shares to
+/// `record`, p for an absent one, and the values read to `revealed`.
+pub fn run(sheet: &[u8], present: u8, record: &mut [u32], revealed: &mut [u32]) -> Answer {
+    match accepted(sheet, present) {
         Ok((sheet, lines)) => Machine::new(&sheet, record, revealed).run(&lines),
         Err(refused) => without_run(refused),
     }
 }
 
 /// The sheet and its script's lines, or why the input is refused.
-fn accepted(bytes: &[u8]) -> Result<(Sheet<'_>, Vec<Line>), Refused> {
-    let sheet = Sheet::read(bytes).map_err(|number| Refused { number, place: 0 })?;
+fn accepted(bytes: &[u8], present: u8) -> Result<(Sheet<'_>, Vec<Line>), Refused> {
+    let sheet = Sheet::read(bytes, present).map_err(|number| Refused { number, place: 0 })?;
     let lines = script::read(sheet.script, sheet.field)?;
     Ok((sheet, lines))
 }

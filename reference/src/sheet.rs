@@ -3,6 +3,8 @@
 pub mod header;
 
 use crate::field::Field;
+use crate::opening::Opening;
+use crate::present;
 use crate::refusal;
 use crate::row::Row;
 use crate::steps::Triple;
@@ -13,6 +15,7 @@ pub struct Sheet<'a> {
     pub field: &'static Field,
     pub parties: usize,
     pub weights: Weights,
+    pub opening: Opening,
     pub script: &'a [u8],
     pub inputs: Vec<Row>,
     /// Each mask as the rows of its bits, bit 0 first.
@@ -21,9 +24,12 @@ pub struct Sheet<'a> {
 }
 
 impl Sheet<'_> {
-    /// Tries 1 to 8 in that order, each over the whole sheet.
-    pub fn read(bytes: &[u8]) -> Result<Sheet<'_>, u32> {
-        let header = Header::read(bytes)?;
+    /// Tries 1 to 3, 12 of the byte that says who is present, and 4 to 8 in that order, each over the
+    /// whole sheet: the shares of absent parties are looked at like the others.
+    pub fn read(bytes: &[u8], present: u8) -> Result<Sheet<'_>, u32> {
+        let header = Header::begin(bytes)?;
+        present::check(present, header.parties, header.threshold)?;
+        header.check_length(bytes.len())?;
         let field = header.field;
         let (script, shares) = bytes[header::BYTES..].split_at(header.script);
         let rows = rows_of(shares, header.parties);
@@ -36,6 +42,7 @@ impl Sheet<'_> {
             field,
             parties: header.parties,
             weights,
+            opening: Opening::new(field, present, header.threshold),
             script,
             inputs: inputs.to_vec(),
             masks: masks

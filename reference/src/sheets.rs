@@ -13,10 +13,11 @@ mod wrong;
 
 use crate::cases::generator::Generator;
 use crate::field::Field;
+use crate::present::{bit, everyone, permitted};
 use crate::run_case::{Case, LONGEST_RECORD, LONGEST_REVEALED};
 use good::Good;
 
-/// A good sheet, a near miss or a damaged sheet, with buffers of any length.
+/// A good sheet, a near miss or a damaged sheet, with buffers of any length and any set of parties.
 pub fn sheet_for(seed: u64, index: u64) -> Case {
     let mut generator = Generator::at(seed, index);
     let good = Good::draw(&mut generator);
@@ -24,6 +25,7 @@ pub fn sheet_for(seed: u64, index: u64) -> Case {
         record_length(&mut generator, &good),
         revealed_length(&mut generator, &good),
     );
+    let parties = (good.draft.parties, good.draft.threshold);
     let sheet = match generator.below(8) {
         0..=4 => good.draft.to_bytes(),
         5..=6 => near_miss(&mut generator, good),
@@ -31,9 +33,28 @@ pub fn sheet_for(seed: u64, index: u64) -> Case {
     };
     Case {
         sheet,
+        present: drawn_present(&mut generator, parties),
         record,
         revealed,
     }
+}
+
+/// Mostly a permitted set or everyone; else t parties, a bit beyond n, or any byte.
+fn drawn_present(generator: &mut Generator, (n, t): (u8, u8)) -> u8 {
+    let set = generator.pick(&permitted(n.into(), t.into()));
+    match generator.below(32) {
+        0..=15 => set,
+        16..=28 => everyone(n),
+        29 => generator.pick(&sets_of(n, t)),
+        30 => set | bit(usize::from(n) + 1 + generator.below(8 - u32::from(n)) as usize),
+        _ => generator.any() as u8,
+    }
+}
+
+/// Every set of so many of n parties.
+fn sets_of(parties: u8, size: u8) -> Vec<u8> {
+    let sets = 0..=everyone(parties);
+    sets.filter(|set| set.count_ones() == size.into()).collect()
 }
 
 /// The highest number of the field; the lowest is minus this.
@@ -112,6 +133,7 @@ fn damaged(generator: &mut Generator, mut sheet: Vec<u8>) -> Vec<u8> {
 #[cfg(test)]
 mod tests {
     use super::*;
+    use crate::cases::PERMITTED;
     use crate::field::FIELDS;
 
     /// Blocks of 64 seconds in field 2.
@@ -141,9 +163,33 @@ mod tests {
             let outcome = sheet_for(5, index).outcome();
             seen[outcome.answer.number as usize] += 1;
         }
-        for number in (0..=11).chain(21..=26) {
+        for number in (0..=12).chain(21..=26) {
             assert!(seen[number] >= 10, "{number}: {seen:?}");
         }
         assert!(seen[0] >= 4_000, "{seen:?}");
+    }
+
+    /// Good or bad: every byte, for each number of parties and each threshold.
+    #[test]
+    fn every_byte_of_present_parties_is_drawn() {
+        let mut generator = Generator::new(5);
+        for (n, t) in PERMITTED {
+            let mut seen = [0; 256];
+            for _ in 0..100_000 {
+                let present = drawn_present(&mut generator, (n as u8, t as u8));
+                seen[usize::from(present)] += 1;
+            }
+            assert!(seen.iter().all(|&count| count > 0), "{n} {t}: {seen:?}");
+            let good = permitted(n as usize, t as usize);
+            let good = good.into_iter().map(|set| seen[usize::from(set)]);
+            assert!(good.sum::<u32>() > 80_000, "{n} {t}: {seen:?}");
+        }
+    }
+
+    #[test]
+    fn sets_have_their_size() {
+        assert_eq!(sets_of(3, 1), [1, 2, 4]);
+        assert_eq!(sets_of(4, 2), [3, 5, 6, 9, 10, 12]);
+        assert_eq!(sets_of(7, 3).len(), 35);
     }
 }

@@ -4,8 +4,8 @@ pub mod case;
 pub mod cases;
 
 use crate::field::Field;
+use crate::opening::Opening;
 use crate::row::Row;
-use crate::weights::Weights;
 
 /// Rows a, b and c, where c's secret is a's times b's.
 #[derive(Clone, Copy, Debug, PartialEq)]
@@ -15,10 +15,11 @@ pub struct Triple {
     pub c: Row,
 }
 
-/// What a step works with: the field, the weights and the rest of the deal; and what was opened so far.
+/// What a step works with: the field, how a row is opened, and the rest of the deal; and what was opened
+/// so far, with the shares of absent parties, whose columns are worked like the others.
 pub struct Work<'a> {
     field: &'static Field,
-    weights: &'a Weights,
+    opening: &'a Opening,
     /// Each mask as the rows of its bits, bit 0 first.
     masks: std::slice::Iter<'a, Vec<Row>>,
     triples: std::slice::Iter<'a, Triple>,
@@ -26,10 +27,10 @@ pub struct Work<'a> {
 }
 
 impl<'a> Work<'a> {
-    pub fn new(weights: &'a Weights, masks: &'a [Vec<Row>], triples: &'a [Triple]) -> Work<'a> {
+    pub fn new(opening: &'a Opening, masks: &'a [Vec<Row>], triples: &'a [Triple]) -> Work<'a> {
         Work {
-            field: weights.field(),
-            weights,
+            field: opening.field(),
+            opening,
             masks: masks.iter(),
             triples: triples.iter(),
             opened: Vec::new(),
@@ -45,7 +46,7 @@ impl<'a> Work<'a> {
     }
 
     pub fn open(&mut self, row: Row) -> u64 {
-        let value = self.weights.secret(&row);
+        let value = self.opening.value(&row);
         self.opened.push(row);
         value
     }
@@ -162,6 +163,8 @@ mod tests {
     use super::*;
     use crate::cases::row_of;
     use crate::field::FIELDS;
+    use crate::present::everyone;
+    use crate::weights::Weights;
 
     fn sharing(field: &Field, value: u32) -> Row {
         let row = row_of(field, value, &[7], 3);
@@ -186,11 +189,12 @@ mod tests {
             c: sharing(field, 12),
         };
         let triples = vec![triple; 100];
-        let weights = Weights::new(field, 3, 1);
-        let mut work = Work::new(&weights, &masks, &triples);
+        let opening = Opening::new(field, everyone(3), 1);
+        let mut work = Work::new(&opening, &masks, &triples);
         let left = step(&mut work).unwrap();
         let spent = triples.len() - work.triples_left();
-        (weights.secret(&left), spent, work.opened.len())
+        let secret = Weights::new(field, 3, 1).secret(&left);
+        (secret, spent, work.opened.len())
     }
 
     #[test]

@@ -1,6 +1,7 @@
 //! The lines of the program `table`.
 
 use crate::field::FIELDS;
+use crate::present::everyone_of;
 use crate::refusal;
 use crate::run::{run, Answer};
 use crate::signed::decode;
@@ -9,11 +10,16 @@ pub const RECORD: usize = 10_850;
 pub const REVEALED: usize = 511;
 
 /// What the program prints for a sheet: the field and the parties, each opening, each value
-/// revealed, and the end; for a refused input only the end.
+/// revealed, and the end; for a refused input only the end. It takes everyone as present.
 pub fn lines(sheet: &[u8]) -> String {
+    lines_with(sheet, everyone_of(sheet))
+}
+
+/// The same lines of a run with these parties present.
+pub fn lines_with(sheet: &[u8], present: u8) -> String {
     let mut record = vec![0; RECORD];
     let mut revealed = vec![0; REVEALED];
-    let answer = run(sheet, &mut record, &mut revealed);
+    let answer = run(sheet, present, &mut record, &mut revealed);
     let mut lines = String::new();
     if !is_input_refused(&answer) {
         lines += &run_lines(sheet, &answer, &record, &revealed);
@@ -22,7 +28,7 @@ pub fn lines(sheet: &[u8]) -> String {
 }
 
 pub fn is_input_refused(answer: &Answer) -> bool {
-    (refusal::HEADER..=refusal::RANGE).contains(&answer.number)
+    (refusal::HEADER..=refusal::PRESENT).contains(&answer.number)
 }
 
 pub fn end_line(answer: &Answer) -> String {
@@ -76,6 +82,27 @@ end 0 at 10 inputs 2 masks 0 triples 1 openings 3
         assert_eq!(lines(&sheet), end);
         let end = "end 1 at 0 inputs 0 masks 0 triples 0 openings 0\n";
         assert_eq!(lines(&[]), end);
+    }
+
+    #[test]
+    fn prints_p_for_an_absent_share() {
+        let printed = PRINTED
+            .replace("opened 5 6 7", "opened 5 13 7")
+            .replace("opened 2 3 4", "opened 2 13 4")
+            .replace("opened 7 12 4", "opened 7 13 4");
+        assert_eq!(lines_with(&bench::small(), 0b101), printed);
+        let end = "end 12 at 0 inputs 0 masks 0 triples 0 openings 0\n";
+        assert_eq!(lines_with(&bench::small(), 0b100), end);
+    }
+
+    /// Whatever the header says of n.
+    #[test]
+    fn the_program_never_answers_12() {
+        for (n, t) in (0..=255).flat_map(|n| [0, 1, 2, 3, 4, 255].map(|t| (n, t))) {
+            let sheet = [0, n, t, 0, 0, 0, 0, 0, 0, 1, 0, 0];
+            let printed = lines(&sheet);
+            assert!(!printed.contains("end 12 "), "{n} {t}: {printed}");
+        }
     }
 
     /// The product reads register 3, which is unset.

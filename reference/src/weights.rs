@@ -12,18 +12,15 @@ pub struct Weights {
 
 impl Weights {
     pub fn new(field: &'static Field, parties: usize, threshold: usize) -> Weights {
-        let fixing = threshold as u64 + 1;
+        let first: Vec<u64> = (1..=threshold as u64 + 1).collect();
+        let later = threshold as u64 + 2..=parties as u64;
         Weights {
             field,
-            at_zero: weights_at(field, 0, fixing),
-            at_later: (fixing + 1..=parties as u64)
-                .map(|party| weights_at(field, party, fixing))
+            at_zero: weights_at(field, 0, &first),
+            at_later: later
+                .map(|party| weights_at(field, party, &first))
                 .collect(),
         }
-    }
-
-    pub fn field(&self) -> &'static Field {
-        self.field
     }
 
     /// The value at 0 of the polynomial that the first t + 1 shares lie on.
@@ -61,17 +58,18 @@ impl Weights {
     }
 }
 
-/// The weight at x of each party from 1 to `points`.
-fn weights_at(field: &Field, x: u64, points: u64) -> Vec<u64> {
-    (1..=points)
-        .map(|party| weight(field, x, party, points))
+/// The weight at x of each of these parties, in their order.
+pub fn weights_at(field: &Field, x: u64, parties: &[u64]) -> Vec<u64> {
+    parties
+        .iter()
+        .map(|&party| weight(field, x, party, parties))
         .collect()
 }
 
-/// The product of (x - other) / (party - other) over every other point.
-fn weight(field: &Field, x: u64, party: u64, points: u64) -> u64 {
-    let others = (1..=points).filter(|&other| other != party);
-    let (above, below) = others.fold((1, 1), |(above, below), other| {
+/// The product of (x - other) / (party - other) over every other of the parties.
+fn weight(field: &Field, x: u64, party: u64, parties: &[u64]) -> u64 {
+    let others = parties.iter().filter(|&&other| other != party);
+    let (above, below) = others.fold((1, 1), |(above, below), &other| {
         (
             field.multiply(above, field.subtract(x, other)),
             field.multiply(below, field.subtract(party, other)),
@@ -87,6 +85,37 @@ mod tests {
     use crate::cases::{row_of, PERMITTED};
     use crate::field::FIELDS;
     use crate::sharing::recover;
+
+    /// Every set of so many of seven parties.
+    fn sets(size: usize) -> Vec<Vec<u64>> {
+        let set = |bits: u32| (1..=7).filter(move |party| bits >> (party - 1) & 1 == 1);
+        let sets = (0..1 << 7).map(|bits| set(bits).collect::<Vec<u64>>());
+        sets.filter(|set| set.len() == size).collect()
+    }
+
+    /// The value at 0 is 1 for the constant 1, and 0 for every power up to the threshold.
+    fn check_at_zero(field: &Field, set: &[u64]) {
+        let p = u128::from(field.modulus);
+        let weights = weights_at(field, 0, set);
+        assert!(weights.iter().all(|&weight| u128::from(weight) < p));
+        for power in 0..set.len() as u32 {
+            let terms = set.iter().zip(&weights);
+            let terms = terms.map(|(&x, &weight)| u128::from(weight) * u128::from(x).pow(power));
+            let value = terms.sum::<u128>() % p;
+            assert_eq!(value, u128::from(power == 0), "{set:?} {power} {p}");
+        }
+    }
+
+    #[test]
+    fn weights_of_any_parties_give_the_value_at_0_of_every_power() {
+        for (size, count) in [(2, 21), (3, 35), (4, 35)] {
+            let sets = sets(size);
+            assert_eq!(sets.len(), count);
+            for field in &FIELDS {
+                sets.iter().for_each(|set| check_at_zero(field, set));
+            }
+        }
+    }
 
     #[test]
     fn a_sharing_can_start_with_any_shares() {

@@ -6,6 +6,7 @@ use reference::cases::PERMITTED;
 use reference::columns::case::Case;
 use reference::columns::{held, stored, Way};
 use reference::field::FIELDS;
+use reference::present::everyone_of;
 use reference::sheet::Sheet;
 use reference::sheets::bench;
 
@@ -120,7 +121,7 @@ impl Seen {
     /// The number that the sheet's shares would get in a run, if it was turned.
     fn read(&self) -> Option<u32> {
         let sheet = self.sheet()?;
-        Some(Sheet::read(sheet).err().unwrap_or(0))
+        Some(Sheet::read(sheet, everyone_of(sheet)).err().unwrap_or(0))
     }
 
     fn script(&self) -> &[u8] {

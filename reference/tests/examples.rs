@@ -1,5 +1,5 @@
 //! The files of examples/sheets and examples/lists are those that the reference makes, and the documents
-//! quote them and the column form of a sheet.
+//! quote them, the column form of a sheet, and runs with a party absent.
 
 mod files;
 
@@ -10,6 +10,8 @@ use reference::calls::case::printed;
 use reference::calls::examples as lists;
 use reference::columns::case::filling;
 use reference::columns::{to_columns, Way};
+use reference::present::{bit, everyone_of};
+use reference::run_case::Case;
 use reference::sheets::examples::{named, NAMES};
 use reference::table;
 
@@ -66,9 +68,12 @@ fn quoted_bytes(line: &str) -> Option<(usize, Vec<u8>)> {
     Some((offset, bytes.collect()))
 }
 
-/// A line that the examples in C and Rust print of the column form, as `put together 82 bytes same`.
-fn is_of_parts(line: &str) -> bool {
-    line.starts_with("part ") || line.starts_with("put together ")
+/// A line that the examples in C and Rust print of the column form, as `put together 82 bytes same`, or
+/// of a run with a party absent.
+fn is_of_the_programs(line: &str) -> bool {
+    ["part ", "put together ", "party 1 absent: "]
+        .iter()
+        .any(|words| line.starts_with(words))
 }
 
 /// The input turned with an output of its length.
@@ -108,21 +113,42 @@ fn headed(heading: &str) -> (&str, Bytes) {
     (heading, Bytes::Sheet)
 }
 
-/// An example that a document quotes, what is quoted of it, and how many lines of its run stand before
-/// the next quotation.
+/// The name of an example, or more than it, and the party that is absent.
+fn absence(heading: &str) -> (&str, Option<usize>) {
+    let of_party = heading.strip_suffix(" absent");
+    let split = of_party.and_then(|heading| heading.split_once(" with party "));
+    match split {
+        Some((name, party)) => (name, Some(party.parse().unwrap())),
+        None => (heading, None),
+    }
+}
+
+/// An example that a document quotes, what is quoted of it, who is absent when it is run, and how many
+/// lines of its run stand before the next quotation.
 struct Quoted {
     name: String,
     bytes: Bytes,
+    absent: Option<usize>,
     passed: usize,
 }
 
 impl Quoted {
     fn new(heading: &str) -> Quoted {
+        let (heading, absent) = absence(heading);
         let (name, bytes) = headed(heading);
         Quoted {
             name: name.to_owned(),
             bytes,
+            absent,
             passed: 0,
+        }
+    }
+
+    /// The lines of the sheet's run.
+    fn lines(&self, sheet: &[u8]) -> String {
+        match self.absent {
+            None => table::lines(sheet),
+            Some(party) => table::lines_with(sheet, everyone_of(sheet) & !bit(party)),
         }
     }
 
@@ -144,7 +170,7 @@ impl Quoted {
             assert!(ends_an_import(line), "no example list ends so: {line}");
             return true;
         }
-        if is_of_parts(line) {
+        if is_of_the_programs(line) {
             let expected = text("examples/expected");
             assert!(expected.lines().any(|it| it == line), "not printed: {line}");
             return true;
@@ -152,7 +178,7 @@ impl Quoted {
         let name = &self.name;
         let sheet = named(name).unwrap_or_else(|| panic!("no example {name}"));
         if is_printed(line) {
-            let printed = table::lines(&sheet);
+            let printed = self.lines(&sheet);
             let place = printed.lines().skip(self.passed).position(|it| it == line);
             let place = place.unwrap_or_else(|| panic!("{name}: not printed, or earlier: {line}"));
             self.passed += place + 1;
@@ -187,6 +213,17 @@ fn documents_quote_the_sheets_and_their_lines() {
     assert!(quotations("docs/EXAMPLES.md", "mul") > 50);
     assert!(quotations("README.md", "three-calls") > 5);
     assert_eq!(quotations("docs/REFUSALS.md", "no-mask-left"), 1);
+}
+
+/// docs/EXAMPLES.md: of three parties with threshold 1 four sets are permitted.
+#[test]
+fn every_other_byte_for_mul_is_answered_with_12() {
+    let mul = Case::with_room(named("mul").unwrap());
+    for present in 0..=u8::MAX {
+        let answer = mul.clone().with_present(present).outcome().answer;
+        let is_permitted = [3, 5, 6, 7].contains(&present);
+        assert_eq!(answer.number, if is_permitted { 0 } else { 12 });
+    }
 }
 
 /// docs/EXAMPLES.md: an output of 81 bytes is refused, and of one of 128 bytes the last 46 stay.

@@ -3,6 +3,7 @@
 mod plain;
 
 use plain::{finished, Plain};
+use reference::present::{everyone_of, is_present};
 use reference::run_case::{Case, Outcome, FILLING};
 use reference::script;
 use reference::script::command::Cost;
@@ -11,8 +12,10 @@ use reference::sheets::sheet_for;
 
 fn check(case: &Case) -> bool {
     let outcome = case.outcome();
-    let Ok(sheet) = Sheet::read(&case.sheet) else {
-        assert!((1..=8).contains(&outcome.answer.number));
+    let Ok(sheet) = Sheet::read(&case.sheet, case.present) else {
+        assert!((1..=8)
+            .chain([12])
+            .any(|number| number == outcome.answer.number));
         return false;
     };
     let Ok(lines) = script::read(sheet.script, sheet.field) else {
@@ -26,7 +29,8 @@ fn check(case: &Case) -> bool {
         .map(|command| command.cost(sheet.field))
         .collect();
     check_counts(&costs, &outcome);
-    check_buffers(&sheet, &plain, &outcome);
+    check_record(&sheet, case, &outcome);
+    check_revealed(&plain, &outcome);
     true
 }
 
@@ -53,14 +57,23 @@ fn check_counts(costs: &[Cost], outcome: &Outcome) {
     assert_eq!(answer.revealed, sum(|cost| cost.revealed));
 }
 
-fn check_buffers(sheet: &Sheet, plain: &Plain, outcome: &Outcome) {
+/// p stands for absent shares alone, and rows with every share are sharings.
+fn check_record(sheet: &Sheet, case: &Case, outcome: &Outcome) {
     let shares = outcome.answer.openings * sheet.parties;
     let (opened, tail) = outcome.record.split_at(shares);
+    let p = u64::from(sheet.field.modulus);
     for row in opened.chunks_exact(sheet.parties) {
         let row: Vec<u64> = row.iter().map(|&share| share.into()).collect();
-        assert!(sheet.weights.is_sharing(&row));
+        for (party, &share) in (1..).zip(&row) {
+            assert!(share <= p && (share == p) != is_present(case.present, party));
+        }
+        let whole = case.present == everyone_of(&case.sheet);
+        assert!(!whole || sheet.weights.is_sharing(&row));
     }
     assert!(tail.iter().all(|&number| number == FILLING));
+}
+
+fn check_revealed(plain: &Plain, outcome: &Outcome) {
     let (values, tail) = outcome.revealed.split_at(plain.revealed.len());
     assert_eq!(values, plain.revealed);
     assert!(tail.iter().all(|&number| number == FILLING));
@@ -97,10 +110,10 @@ fn a_refused_input_changes_nothing() {
     for index in 0..10_000 {
         let outcome = sheet_for(12, index).outcome();
         let answer = &outcome.answer;
-        if !(1..=11).contains(&answer.number) {
+        if !(1..=12).contains(&answer.number) {
             continue;
         }
-        assert!(answer.number >= 9 || answer.place == 0);
+        assert!((9..=11).contains(&answer.number) || answer.place == 0);
         let counts = [answer.inputs, answer.masks, answer.triples];
         assert_eq!(counts, [0; 3]);
         assert_eq!((answer.openings, answer.revealed), (0, 0));

@@ -29,7 +29,7 @@ impl<'a> Machine<'a> {
     ) -> Machine<'a> {
         Machine {
             sheet,
-            work: Work::new(&sheet.weights, &sheet.masks, &sheet.triples),
+            work: Work::new(&sheet.opening, &sheet.masks, &sheet.triples),
             registers: [None; REGISTERS],
             inputs: 0,
             openings: 0,
@@ -135,7 +135,7 @@ impl<'a> Machine<'a> {
         let n = self.sheet.parties;
         for row in self.work.opened.drain(..) {
             let places = &mut self.record[self.openings * n..][..n];
-            for (place, &share) in places.iter_mut().zip(row.iter()) {
+            for (place, share) in places.iter_mut().zip(self.sheet.opening.recorded(&row)) {
                 *place = share as u32;
             }
             self.openings += 1;

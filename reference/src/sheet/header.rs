@@ -24,13 +24,20 @@ pub struct Header {
 impl Header {
     /// Tries 1 to 4 in that order.
     pub fn read(sheet: &[u8]) -> Result<Header, u32> {
+        let header = Header::begin(sheet)?;
+        header.check_length(sheet.len())?;
+        Ok(header)
+    }
+
+    /// Tries 1 to 3 in that order. The counts may be over their limits.
+    pub fn begin(sheet: &[u8]) -> Result<Header, u32> {
         if sheet.len() < BYTES {
             return Err(refusal::HEADER);
         }
         let field = Field::numbered(u32::from(sheet[0]))?;
         check_parties(u32::from(sheet[1]), u32::from(sheet[2]))?;
         let count = |place| usize::from(u16::from_le_bytes([sheet[place], sheet[place + 1]]));
-        let header = Header {
+        Ok(Header {
             field,
             parties: usize::from(sheet[1]),
             threshold: usize::from(sheet[2]),
@@ -38,12 +45,13 @@ impl Header {
             masks: count(5),
             triples: count(7),
             script: count(9),
-        };
-        if header.is_within_limits() && header.implied_length() == sheet.len() {
-            Ok(header)
-        } else {
-            Err(refusal::LENGTH)
-        }
+        })
+    }
+
+    /// Tries 4 of a sheet with so many bytes.
+    pub fn check_length(&self, bytes: usize) -> Result<(), u32> {
+        let right = self.is_within_limits() && self.implied_length() == bytes;
+        right.then_some(()).ok_or(refusal::LENGTH)
     }
 
     fn is_within_limits(&self) -> bool {

@@ -104,6 +104,7 @@ fn sheet_of(commands: &[Command], inputs: usize, masks: usize) -> Vec<u8> {
 #[cfg(test)]
 mod tests {
     use super::*;
+    use crate::present::everyone;
     use crate::run::run;
     use crate::run_case::Case;
 
@@ -121,7 +122,7 @@ mod tests {
     fn signs_spend_what_the_deal_allows() {
         for (k, count, triples) in [(30, 5, 435), (2, 16, 496)] {
             let sheet = signs(k);
-            let answer = run(&sheet, &mut [0; 10_850], &mut [0; 511]);
+            let answer = run(&sheet, everyone(7), &mut [0; 10_850], &mut [0; 511]);
             let spent = (answer.number, answer.masks, answer.triples);
             assert_eq!(spent, (0, count, triples));
             assert_eq!(answer.openings, 2 * count + 2 * triples);

@@ -1,5 +1,6 @@
 //! The sheets that the gate gives to program `table`, beside the examples: one for each number that
-//! it answers, and those that open and reveal the most.
+//! it answers, those that open and reveal the most, and one for each number of parties that no other
+//! has, since the program takes everyone as present.
 
 use super::draft::Draft;
 use super::examples;
@@ -17,13 +18,16 @@ const SPELLED: u32 = 0x5555_5555;
 pub fn all() -> Vec<(String, Vec<u8>)> {
     let ends = faults().into_iter().chain(stops());
     let ends = ends.map(|(number, fault)| (format!("end-{number}"), spoiled(number, fault)));
-    let large = [
+    let others = [
         ("bit-tests", bit_tests()),
         ("most-openings", most_openings()),
         ("most-reveals", most_reveals()),
+        ("four-parties", product(41, (4, 1))),
+        ("five-parties", product(42, (5, 2))),
+        ("six-parties", product(43, (6, 2))),
     ];
-    let large = large.map(|(name, draft)| (name.to_owned(), draft.to_bytes()));
-    ends.chain(large).collect()
+    let others = others.map(|(name, draft)| (name.to_owned(), draft.to_bytes()));
+    ends.chain(others).collect()
 }
 
 /// The bytes of the sheet with this name.
@@ -134,10 +138,32 @@ fn most_reveals() -> Draft {
     seven_parties(33, &commands, &[2_147_483_646], 0)
 }
 
-/// A sheet of the largest field with the most parties, and all triples that the commands take.
+/// 5 times 3, revealed, for these parties.
+fn product(index: u64, parties: (u32, u32)) -> Draft {
+    let commands = [
+        Command::Load { d: 0 },
+        Command::Load { d: 1 },
+        Command::Mul { d: 2, a: 0, b: 1 },
+        Command::Reveal { a: 2 },
+    ];
+    dealt(index, parties, &commands, &[5, 3], 0)
+}
+
+/// A sheet with the most parties, and all triples that the commands take.
 fn seven_parties(index: u64, commands: &[Command], secrets: &[u32], masks: usize) -> Draft {
+    dealt(index, (7, 3), commands, secrets, masks)
+}
+
+/// A sheet of the largest field with all triples that the commands take.
+fn dealt(
+    index: u64,
+    parties: (u32, u32),
+    commands: &[Command],
+    secrets: &[u32],
+    masks: usize,
+) -> Draft {
     let mut generator = Generator::at(SEED, index);
-    let mut dealer = Dealer::new(&mut generator, 3, (7, 3));
+    let mut dealer = Dealer::new(&mut generator, 3, parties);
     Draft::deal_drawn(&mut dealer, commands, secrets, masks)
 }
 
@@ -158,7 +184,7 @@ mod tests {
             assert_eq!(answer.number, number);
             assert_eq!(answer.openings > 0, number > 20, "{number}");
         }
-        assert_eq!(all().len(), 15 + 3);
+        assert_eq!(all().len(), 15 + 6);
         assert_eq!(named("end-25"), None);
     }
 
@@ -176,6 +202,18 @@ mod tests {
             assert_eq!(answer.revealed, revealed);
             assert_eq!(outcome.record.len(), 7 * openings + 3);
         }
+    }
+
+    /// The examples have three parties.
+    #[test]
+    fn there_is_a_run_for_every_number_of_parties() {
+        for (parties, name) in (4..).zip(["four", "five", "six"]) {
+            let sheet = named(&format!("{name}-parties")).expect(name);
+            assert_eq!(sheet[1], parties);
+            let outcome = Case::with_room(sheet).outcome();
+            assert_eq!((outcome.answer.number, outcome.revealed[0]), (0, 15));
+        }
+        assert_eq!(named("most-reveals").unwrap()[1], 7);
     }
 
     #[test]

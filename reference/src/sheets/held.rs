@@ -2,11 +2,13 @@
 
 mod commands;
 mod fields;
+mod present;
 mod refused;
 mod scripts;
 mod stops;
 
 use super::draft::Draft;
+use crate::present::everyone_of;
 use crate::run::{run, Answer};
 use crate::run_case::Case;
 use crate::table::{RECORD, REVEALED};
@@ -22,6 +24,8 @@ pub struct Held {
     pub header: Vec<u8>,
     pub script: Vec<u8>,
     pub shares: Vec<u32>,
+    /// Bit j - 1 says that party j is present.
+    pub present: u8,
     pub record: usize,
     pub revealed: usize,
 }
@@ -34,19 +38,30 @@ pub struct Left {
 }
 
 impl Held {
-    /// A draft's sheet with buffers of these lengths.
+    /// A sheet with everyone present, three numbers lent for the record and one for the revealed list.
+    fn plain(says: &'static str, header: &[u8], script: &[u8], shares: &[u32]) -> Held {
+        Held {
+            says,
+            header: header.to_vec(),
+            script: script.to_vec(),
+            shares: shares.to_vec(),
+            present: everyone_of(header),
+            record: 3,
+            revealed: 1,
+        }
+    }
+
+    /// A draft's sheet with everyone present and buffers of these lengths.
     fn of(says: &'static str, draft: &Draft, record: usize, revealed: usize) -> Held {
         let bytes = draft.to_bytes();
         let (header, rest) = bytes.split_at(11);
         let (script, rows) = rest.split_at(draft.script.len());
         let word = |four: &[u8]| u32::from_le_bytes([four[0], four[1], four[2], four[3]]);
+        let shares: Vec<u32> = rows.chunks_exact(4).map(word).collect();
         Held {
-            says,
-            header: header.to_vec(),
-            script: script.to_vec(),
-            shares: rows.chunks_exact(4).map(word).collect(),
             record,
             revealed,
+            ..Held::plain(says, header, script, &shares)
         }
     }
 
@@ -61,6 +76,11 @@ impl Held {
         }
     }
 
+    /// The same with other parties present.
+    fn with_present(self, present: u8) -> Held {
+        Held { present, ..self }
+    }
+
     pub fn bytes(&self) -> Vec<u8> {
         let shares = self.shares.iter().flat_map(|share| share.to_le_bytes());
         let start = self.header.iter().chain(&self.script).copied();
@@ -71,7 +91,7 @@ impl Held {
         let mut record = vec![FILLING; self.record];
         let mut revealed = vec![FILLING; self.revealed];
         Left {
-            answer: run(&self.bytes(), &mut record, &mut revealed),
+            answer: run(&self.bytes(), self.present, &mut record, &mut revealed),
             record,
             revealed,
         }
@@ -80,6 +100,7 @@ impl Held {
     fn case(&self) -> Case {
         Case {
             sheet: self.bytes(),
+            present: self.present,
             record: self.record,
             revealed: self.revealed,
         }
@@ -111,8 +132,13 @@ pub fn masked() -> Vec<Held> {
     all
 }
 
+/// Runs with absent parties, and the sets that 12 refuses.
+pub fn present() -> Vec<Held> {
+    present::all()
+}
+
 pub fn all() -> Vec<Held> {
-    [sheets(), scripts(), runs(), masked()].concat()
+    [sheets(), scripts(), runs(), masked(), present()].concat()
 }
 
 /// All of them, as the stored cases have them.
@@ -145,9 +171,17 @@ mod tests {
     #[test]
     fn every_number_is_answered() {
         let all = all();
-        for number in (0..=11).chain(21..=26) {
+        for number in (0..=12).chain(21..=26) {
             let found = all.iter().filter(|held| number_said(held.says) == number);
             assert!(found.count() >= 2, "{number}");
+        }
+    }
+
+    /// Rows of these tables do not say who is present.
+    #[test]
+    fn everyone_is_present_but_in_the_table_of_present_parties() {
+        for held in [sheets(), scripts(), runs(), masked()].concat() {
+            assert_eq!(held.present, everyone_of(&held.header), "{}", held.says);
         }
     }
 

@@ -6,6 +6,7 @@ mod drawn;
 mod ends;
 mod figures;
 mod operands;
+mod present;
 mod scripts;
 mod spoiled;
 mod stops;
@@ -32,6 +33,7 @@ pub fn all() -> Vec<Case> {
     cases.extend(blocks::all(&mut generator));
     cases.extend(held::cases());
     cases.extend(drawn::all());
+    cases.extend(present::all(&mut generator));
     cases.push(largest());
     cases
 }
@@ -39,9 +41,9 @@ pub fn all() -> Vec<Case> {
 /// Every cell of the table is set, and both buffers are as long as a case may lend them.
 fn largest() -> Case {
     Case {
-        sheet: bench::largest(),
         record: LONGEST_RECORD,
         revealed: LONGEST_REVEALED,
+        ..Case::with_room(bench::largest())
     }
 }
 
@@ -88,7 +90,7 @@ mod tests {
 
     #[test]
     fn answers_are_within_bounds() {
-        STORED.is_within(400..=1_000, 800_000);
+        STORED.is_within(400..=2_000, 1_000_000);
     }
 
     #[test]
@@ -110,7 +112,7 @@ mod tests {
         for case in all() {
             seen[case.outcome().answer.number as usize] += 1;
         }
-        for number in (0..=11).chain(21..=26) {
+        for number in (0..=12).chain(21..=26) {
             assert!(seen[number] >= 4, "{number}: {seen:?}");
         }
     }

@@ -2,8 +2,9 @@
 
 use super::{Triple, Work};
 use crate::field::Field;
+use crate::opening::Opening;
+use crate::present::everyone;
 use crate::row::Row;
-use crate::weights::Weights;
 
 /// A command of the paper that opens values, under its byte.
 #[derive(Clone, Copy, Debug, PartialEq)]
@@ -39,10 +40,11 @@ pub struct Answer {
 }
 
 impl StepCase {
-    /// None unless the deal has exactly the triples that the step takes.
+    /// With everyone present. None unless the deal has exactly the triples that the step takes.
     pub fn answer(&self) -> Option<Answer> {
-        let weights = Weights::new(self.field, self.parties as usize, self.threshold as usize);
-        let mut work = Work::new(&weights, &self.masks, &self.triples);
+        let present = everyone(self.parties as u8);
+        let opening = Opening::new(self.field, present, self.threshold as usize);
+        let mut work = Work::new(&opening, &self.masks, &self.triples);
         let (first, k, m) = (&self.operands[0], self.k, self.m);
         let left = match self.step {
             Step::Mul => work.multiply(first, &self.operands[1]),

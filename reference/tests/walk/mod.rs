@@ -10,7 +10,7 @@ use reference::sheets::stored;
 
 /// What `look` finds at the commands that finish when the sheet is run.
 pub fn found<T>(case: &Case, look: impl Fn(&Field, &Plain, &Command) -> Option<T>) -> Vec<T> {
-    let Ok(sheet) = Sheet::read(&case.sheet) else {
+    let Ok(sheet) = Sheet::read(&case.sheet, case.present) else {
         return Vec::new();
     };
     let lines = script::read(sheet.script, sheet.field).unwrap_or_default();

@@ -46,16 +46,15 @@ struct Small {
 }
 
 /// The sheet of the paper's printed run.
-fn printed() -> Held {
+pub fn printed() -> Held {
     let bytes = bench::small();
     let word = |four: &[u8]| u32::from_le_bytes([four[0], four[1], four[2], four[3]]);
+    let shares: Vec<u32> = bytes[22..].chunks_exact(4).map(word).collect();
+    let says = "the paper's printed run: LOAD, LOAD, MUL, REVEAL";
     Held {
-        says: "the paper's printed run: LOAD, LOAD, MUL, REVEAL",
-        header: bytes[..11].to_vec(),
-        script: bytes[11..22].to_vec(),
-        shares: bytes[22..].chunks_exact(4).map(word).collect(),
         record: 12,
         revealed: 2,
+        ..Held::plain(says, &bytes[..11], &bytes[11..22], &shares)
     }
 }
 

@@ -50,13 +50,12 @@ pub fn linear() -> Vec<Held> {
 
 /// LOAD 0, END and one row, whose bytes stand behind the script as they are.
 fn in_bytes() -> Held {
+    let says = "field 3, a row in bytes: 4 3 2 1 is 16909060, the lowest byte first";
+    let header = [3, 3, 1, 1, 0, 0, 0, 0, 0, 3, 0];
+    let script = [&[1, 0, 0], [4, 3, 2, 1].repeat(3).as_slice()].concat();
     Held {
-        says: "field 3, a row in bytes: 4 3 2 1 is 16909060, the lowest byte first",
-        header: vec![3, 3, 1, 1, 0, 0, 0, 0, 0, 3, 0],
-        script: [&[1, 0, 0], [4, 3, 2, 1].repeat(3).as_slice()].concat(),
-        shares: vec![],
         record: 1,
-        revealed: 1,
+        ..Held::plain(says, &header, &script, &[])
     }
 }
 

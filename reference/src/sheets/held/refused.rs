@@ -14,27 +14,15 @@ pub fn all() -> Vec<Held> {
     all
 }
 
-/// Lends three numbers and one.
-fn held(says: &'static str, header: &[u8], script: &[u8], shares: &[u32]) -> Held {
-    Held {
-        says,
-        header: header.to_vec(),
-        script: script.to_vec(),
-        shares: shares.to_vec(),
-        record: 3,
-        revealed: 1,
-    }
-}
-
 /// Field 0, three parties, threshold 1, so many input rows, masks and triples, and a script of END.
 fn small(says: &'static str, counts: (u8, u8, u8), shares: &[u32]) -> Held {
     let (inputs, masks, triples) = counts;
     let header = [0, 3, 1, inputs, 0, masks, 0, triples, 0, 1, 0];
-    held(says, &header, &[0], shares)
+    Held::plain(says, &header, &[0], shares)
 }
 
 fn headers() -> Vec<Held> {
-    let none = |says, header: &[u8]| held(says, header, &[], &[]);
+    let none = |says, header: &[u8]| Held::plain(says, header, &[], &[]);
     vec![
         none("1: no byte", &[]),
         none("1: ten bytes", &[0, 3, 1, 0, 0, 0, 0, 0, 0, 0]),
@@ -51,7 +39,7 @@ fn headers() -> Vec<Held> {
 
 /// Each number of parties with its largest threshold, and with one more.
 fn parties() -> Vec<Held> {
-    let with = |says, n, t| held(says, &[0, n, t, 0, 0, 0, 0, 0, 0, 1, 0], &[0], &[]);
+    let with = |says, n, t| Held::plain(says, &[0, n, t, 0, 0, 0, 0, 0, 0, 1, 0], &[0], &[]);
     let mut all = vec![
         with("3: two parties", 2, 1),
         with("3: two parties, threshold 0", 2, 0),
@@ -64,13 +52,13 @@ fn parties() -> Vec<Held> {
     for (n, t) in [(3, 2), (4, 2), (5, 3), (6, 3), (7, 4)] {
         all.push(with("3: 2t + 1 is more than n", n, t));
     }
-    all.push(held(
+    all.push(Held::plain(
         "3 before 4",
         &[0, 8, 3, 65, 0, 0, 0, 0, 0, 1, 0],
         &[0],
         &[],
     ));
-    all.push(held(
+    all.push(Held::plain(
         "3 before 4: the threshold",
         &[0, 3, 0, 0, 0, 0, 0, 0, 0, 2, 0],
         &[0],
@@ -81,7 +69,7 @@ fn parties() -> Vec<Held> {
 
 /// The length that the header implies, a byte less and a byte more, and the four counts' second bytes.
 fn lengths() -> Vec<Held> {
-    let end = |says, header: &[u8]| held(says, header, &[0], &[]);
+    let end = |says, header: &[u8]| Held::plain(says, header, &[0], &[]);
     vec![
         end("4: a byte is missing", &[0, 3, 1, 0, 0, 0, 0, 0, 0, 2, 0]),
         end("4: a byte more", &[0, 3, 1, 0, 0, 0, 0, 0, 0, 0, 0]),
@@ -102,25 +90,25 @@ fn lengths() -> Vec<Held> {
         ),
         small("4: a row is missing", (1, 1, 1), &[0; 21]),
         small("4: a row more", (1, 1, 1), &[0; 27]),
-        held(
+        Held::plain(
             "a row is n shares",
             &[0, 4, 1, 1, 0, 0, 0, 1, 0, 1, 0],
             &[0],
             &[0; 16],
         ),
-        held(
+        Held::plain(
             "a mask is 8 rows in field 1",
             &[1, 3, 1, 0, 0, 1, 0, 0, 0, 1, 0],
             &[0],
             &[0; 24],
         ),
-        held(
+        Held::plain(
             "a mask is 16 rows in field 2",
             &[2, 3, 1, 0, 0, 1, 0, 0, 0, 1, 0],
             &[0],
             &[0; 48],
         ),
-        held(
+        Held::plain(
             "a mask is 31 rows in field 3",
             &[3, 3, 1, 0, 0, 1, 0, 0, 0, 1, 0],
             &[0],
@@ -147,12 +135,12 @@ fn shares() -> Vec<Held> {
         small("5: a share of a mask", (1, 1, 1), &at(14, 13)),
         small("5: the last share of a triple", (1, 1, 1), &at(23, 13)),
         small("5: a share is four bytes", (1, 1, 1), &at(1, 1 << 24)),
-        held("5: party 7, field 1", &[1, 7, 3, 1, 0, 0, 0, 0, 0, 1, 0], &[0], &seven),
-        held("250 is a share in field 1", &[1, 7, 3, 1, 0, 0, 0, 0, 0, 1, 0], &[0], &[250; 7]),
-        held("65520 is a share in field 2", &[2, 3, 1, 1, 0, 0, 0, 0, 0, 1, 0], &[0], &[65_520; 3]),
-        held("5: 65521 is none", &[2, 3, 1, 1, 0, 0, 0, 0, 0, 1, 0], &[0], &[65_521; 3]),
-        held("2147483646 is a share in field 3", &[3, 3, 1, 1, 0, 0, 0, 0, 0, 1, 0], &[0], &[2_147_483_646; 3]),
-        held("5: 2147483647 is none", &[3, 3, 1, 1, 0, 0, 0, 0, 0, 1, 0], &[0], &[2_147_483_647; 3]),
+        Held::plain("5: party 7, field 1", &[1, 7, 3, 1, 0, 0, 0, 0, 0, 1, 0], &[0], &seven),
+        Held::plain("250 is a share in field 1", &[1, 7, 3, 1, 0, 0, 0, 0, 0, 1, 0], &[0], &[250; 7]),
+        Held::plain("65520 is a share in field 2", &[2, 3, 1, 1, 0, 0, 0, 0, 0, 1, 0], &[0], &[65_520; 3]),
+        Held::plain("5: 65521 is none", &[2, 3, 1, 1, 0, 0, 0, 0, 0, 1, 0], &[0], &[65_521; 3]),
+        Held::plain("2147483646 is a share in field 3", &[3, 3, 1, 1, 0, 0, 0, 0, 0, 1, 0], &[0], &[2_147_483_646; 3]),
+        Held::plain("5: 2147483647 is none", &[3, 3, 1, 1, 0, 0, 0, 0, 0, 1, 0], &[0], &[2_147_483_647; 3]),
         small("5 before 6, over the whole sheet: the first row is no sharing, a share of the second is 13", (2, 0, 0), &[0, 0, 1, 0, 0, 13]),
         small("5 before 6: an input row that is no sharing, the last share of a triple", (1, 0, 1), &[0, 0, 1, 0, 0, 0, 0, 0, 0, 0, 0, 13]),
     ]
@@ -163,7 +151,7 @@ fn rows() -> Vec<Held> {
     let powers =
         |n: u32, power: u32, p: u32| -> Vec<u32> { (1..=n).map(|j| j.pow(power) % p).collect() };
     let row = |says, field, n: u8, t, power, p| {
-        held(
+        Held::plain(
             says,
             &[field, n, t, 1, 0, 0, 0, 0, 0, 1, 0],
             &[0],
@@ -229,7 +217,7 @@ fn triples() -> Vec<Held> {
     let one = |says, [a, b, c]: [u32; 3]| small(says, (0, 0, 1), &[a, a, a, b, b, b, c, c, c]);
     let script = |says, script: &[u8]| {
         let header = [0, 3, 1, 0, 0, 0, 0, 1, 0, script.len() as u8, 0];
-        held(says, &header, script, &[1, 1, 1, 1, 1, 1, 2, 2, 2])
+        Held::plain(says, &header, script, &[1, 1, 1, 1, 1, 1, 2, 2, 2])
     };
     vec![
         one("2 times 3 is 6", [2, 3, 6]),
@@ -264,13 +252,13 @@ fn limits() -> Vec<Held> {
         let [low, high] = count.to_le_bytes();
         let mut shares = vec![0; 9 * usize::from(count)];
         shares[0] = first;
-        held(says, &[0, 3, 1, 0, 0, 0, 0, low, high, 1, 0], &[0], &shares)
+        Held::plain(says, &[0, 3, 1, 0, 0, 0, 0, low, high, 1, 0], &[0], &shares)
     };
     let script = |says, length: u16| {
         let [low, high] = length.to_le_bytes();
         let mut script = vec![0; usize::from(length)];
         script[0] = 14;
-        held(says, &[0, 3, 1, 0, 0, 0, 0, 0, 0, low, high], &script, &[])
+        Held::plain(says, &[0, 3, 1, 0, 0, 0, 0, 0, 0, low, high], &script, &[])
     };
     vec![
         small("64 input rows", (64, 0, 0), 192),

@@ -20,14 +20,8 @@ pub fn all() -> Vec<Held> {
 /// Three parties, threshold 1, no row.
 fn held(says: &'static str, field: u8, script: &[u8]) -> Held {
     let [low, high] = (script.len() as u16).to_le_bytes();
-    Held {
-        says,
-        header: vec![field, 3, 1, 0, 0, 0, 0, 0, 0, low, high],
-        script: script.to_vec(),
-        shares: vec![],
-        record: 3,
-        revealed: 1,
-    }
+    let header = [field, 3, 1, 0, 0, 0, 0, 0, 0, low, high];
+    Held::plain(says, &header, script, &[])
 }
 
 /// LOAD 0, the command, END: the command's place is 2.

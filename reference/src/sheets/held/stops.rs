@@ -264,14 +264,11 @@ fn full() -> Vec<Stop> {
 /// An opening is n shares.
 fn seven() -> Vec<Held> {
     let held = |says, record| {
-        let script = vec![2, 0, 5, 0, 0, 0, 12, 0, 0];
+        let header = [1, 7, 3, 0, 0, 0, 0, 0, 0, 9, 0];
+        let script = [2, 0, 5, 0, 0, 0, 12, 0, 0];
         Held {
-            says,
-            header: vec![1, 7, 3, 0, 0, 0, 0, 0, 0, 9, 0],
-            script,
-            shares: vec![],
             record,
-            revealed: 1,
+            ..Held::plain(says, &header, &script, &[])
         }
     };
     vec![

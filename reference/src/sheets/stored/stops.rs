@@ -41,9 +41,9 @@ fn stopped(generator: &mut Generator, stop: &Stop) -> Case {
     let mut draft = Draft::deal(&mut dealer, &commands, &secrets, &vec![11; stop.masks]);
     draft.triples = dealer.triples(stop.triples);
     Case {
-        sheet: draft.to_bytes(),
         record: 3 + stop.record,
         revealed: 1 + stop.revealed,
+        ..Case::with_room(draft.to_bytes())
     }
 }
 
