@@ -25,6 +25,7 @@ use Rattle.model.specs.SheetCases.{sheetCases}
 use Rattle.model.specs.ScriptCases.{scriptCases}
 use Rattle.model.specs.RunCases.{runCases}
 use Rattle.model.specs.MaskCases.{maskCases}
+use Rattle.model.specs.PresentCases.{presentCases}
 use Rattle.model.specs.EntryCases.{entryCases}
 use Rattle.model.specs.CallCases.{callCases}
 use Rattle.model.specs.ColumnCases.{columnCases}
@@ -58,10 +59,14 @@ pub runs-hold : Hold runCases
 unfolding add sub mul allBelow from onto tab row modulus bits largestK inUse fieldTests settingTests inverse inversePowerOf2 parties bit presentIn absentIn everyone permittedSet openers eval share newton reciprocal slope interpolate recover secret valueFrom sameList isSharing number rowAt plus minus times constant value recorded byRows comparisonFrom comparison spelled remainder floor sign overStep blocks byteSays allPass numberAt readingAt scriptFrom scriptOf costBy headerOf headerSize maskBits largestIn limits impliedLength scriptIn rowsAt masksFrom triplesFrom inputIn dealIn all maskRows tripleRows spell secrets goodMask goodTriple firstFailed headerTests presentTests limitTests lengthTests rowTests sheetTests bytesOf shareBytes allSet marked check pay registersFrom command throughLines runLines nothingSpent start written outcome runScript stopOf run registersSeen seen runCases
 runs-hold = after sheets-hold refl
 
+pub presents-hold : Hold presentCases
+unfolding add sub mul allBelow from onto tab row modulus bits largestK inUse fieldTests settingTests inverse inversePowerOf2 parties bit presentIn absentIn everyone permittedSet openers eval share newton reciprocal slope interpolate recover secret valueFrom sameList isSharing number rowAt plus minus times constant value recorded byRows comparisonFrom comparison spelled remainder floor sign overStep blocks byteSays allPass numberAt readingAt scriptFrom scriptOf costBy headerOf headerSize maskBits largestIn limits impliedLength scriptIn rowsAt masksFrom triplesFrom inputIn dealIn all maskRows tripleRows spell secrets goodMask goodTriple firstFailed headerTests presentTests limitTests lengthTests rowTests sheetTests bytesOf shareBytes allSet marked check pay registersFrom command throughLines runLines nothingSpent start written outcome runScript stopOf run registersSeen seen presentCases
+presents-hold = after runs-hold refl
+
 pub masked-hold : Hold maskCases
 unfolding add sub mul allBelow from onto tab row modulus bits largestK inUse fieldTests settingTests inverse inversePowerOf2 parties bit presentIn absentIn everyone permittedSet openers eval share newton reciprocal slope interpolate recover secret valueFrom sameList isSharing number rowAt plus minus times constant value recorded byRows comparisonFrom comparison spelled remainder floor sign overStep blocks byteSays allPass numberAt readingAt scriptFrom scriptOf costBy headerOf headerSize maskBits largestIn limits impliedLength scriptIn rowsAt masksFrom triplesFrom inputIn dealIn all maskRows tripleRows spell secrets goodMask goodTriple firstFailed headerTests presentTests limitTests lengthTests rowTests sheetTests bytesOf shareBytes allSet marked check pay registersFrom command throughLines runLines nothingSpent start written outcome runScript stopOf run registersSeen seen maskCases
-masked-hold = after runs-hold refl
+masked-hold = after presents-hold refl
 
 pub cases : Cases
 unfolding add sub mul total modulus inverse reciprocal ratio weight choices weightsSeen tab bits number headerOf headerSize maskBits bytesOf shareBytes sharesFrom regrouped transposed columnForm partOf sharesIn partsSeen from onto firstFailed allSet check checks isTEXTDATA alone plain quoted field isEnd fields readLine isDigit allDigits decimalFrom time lasting call fourFields lineAt lineNumber taken imported
-cases = record { sheets = sheets-hold; scripts = scripts-hold; runs = runs-hold; masked = masked-hold; order = refl; entries = entries-hold; calls = calls-hold; columns = columns-hold; parts = refl; weights = refl; values = refl; plain-names = refl; quoted-names = refl }
+cases = record { sheets = sheets-hold; scripts = scripts-hold; runs = runs-hold; masked = masked-hold; presents = presents-hold; order = refl; entries = entries-hold; calls = calls-hold; columns = columns-hold; parts = refl; weights = refl; values = refl; plain-names = refl; quoted-names = refl }

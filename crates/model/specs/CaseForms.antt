@@ -1,4 +1,4 @@
--- The forms of the rows in SheetCases, ScriptCases, RunCases, MaskCases, EntryCases, CallCases and ColumnCases: what the definitions give, and what
+-- The forms of the rows in SheetCases, ScriptCases, RunCases, MaskCases, PresentCases, EntryCases, CallCases and ColumnCases: what the definitions give, and what
 -- the reference answers by paper and requests.
 -- Assumes nothing.
 use mathlib.Core.Path.{_≡_}

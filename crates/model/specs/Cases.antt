@@ -19,6 +19,7 @@ use Rattle.model.specs.SheetCases.{sheetCases}
 use Rattle.model.specs.ScriptCases.{scriptCases}
 use Rattle.model.specs.RunCases.{runCases}
 use Rattle.model.specs.MaskCases.{maskCases}
+use Rattle.model.specs.PresentCases.{presentCases}
 use Rattle.model.specs.EntryCases.{entryCases}
 use Rattle.model.specs.CallCases.{callCases}
 use Rattle.model.specs.ColumnCases.{columnCases}
@@ -60,13 +61,14 @@ weightsSeen f k =
     let p = modulus f in
     map (λ xs. map (λ e. total xs (λ x. weight p xs x * x ^ e) % p) (from 0 k)) (choices k (from 1 7))
 
--- Each row of the seven tables computes to what the reference, a separately written program, answers by paper and requests. It writes the tables, and
+-- Each row of the eight tables computes to what the reference, a separately written program, answers by paper and requests. It writes the tables, and
 -- the proved programs `cases`, `entries`, `call_cases` and `column_cases` answer the same sheets, calls, lists and inputs.
 pub record Cases : Type 0 where
   pub sheets : Hold sheetCases
   pub scripts : Hold scriptCases
   pub runs : Hold runCases
   pub masked : Hold maskCases
+  pub presents : Hold presentCases
   pub order : checks ≡ 21 ∷ 22 ∷ 23 ∷ 24 ∷ 25 ∷ 26 ∷ 0 ∷ 21 ∷ 22 ∷ 23 ∷ 24 ∷ 25 ∷ []
   pub entries : Hold entryCases
   pub calls : Hold callCases

@@ -38,6 +38,7 @@ pub mod SheetCases
 pub mod ScriptCases
 pub mod RunCases
 pub mod MaskCases
+pub mod PresentCases
 pub mod EntryCases
 pub mod CallCases
 pub mod ColumnCases

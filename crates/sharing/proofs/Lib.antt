@@ -1,5 +1,6 @@
 pub mod Sums
 pub mod Presences
+pub mod Opened
 pub mod Horner
 pub mod Testing
 pub mod Recovery

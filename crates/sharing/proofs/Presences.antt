@@ -54,7 +54,7 @@ module _ (b j : ℕ) where
   none-more : (b / 2 ^ j % 2 ≡ 1 → ⊥) → presentIn b (from 1 (suc j)) ≡ presentIn b (from 1 j)
   none-more e = more ∙ ap (λ (l : List ℕ). presentIn b (from 1 j) ++ l) {y = []} (unfold presentIn in rw (bit-left b j, ne-eqb (b / 2 ^ j % 2) 1 e)) ∙ append-nil (presentIn b (from 1 j))
 
-  shifted : b / 2 ^ j / 2 ≡ b / 2 ^ suc j
+  pub shifted : b / 2 ^ j / 2 ≡ b / 2 ^ suc j
   shifted = rw (div-div-eq-div-mul, pow-suc 2 j)
 
 below-set : {p : ℕ} (l : List ℕ) (i : ℕ) {v : ℕ} → Below p l → v < p → Below p (set l i v)

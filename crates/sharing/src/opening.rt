@@ -1,6 +1,7 @@
 // The value that an opening gives, and the shares that it shows.
 ghost use mathlib.Core.Path.{_≡_};
-ghost use Prim.Native.Nat.{_≤_, _<_};
+ghost use mathlib.Core.Bool.{cond};
+ghost use Prim.Native.Nat.{_+_, _≤_, _<_};
 ghost use lib.ListN.{length};
 ghost use Rattle.algebra.specs.Lists as Lists;
 ghost use Rattle.model.specs.Sharing as Sharing;
@@ -34,4 +35,26 @@ pub fn opened_value(setting: Setting, row: Row) -> u32
     ensures { λ r. ⌜ (r ≡ Steps.value (settingOf setting) (row .shares)) × (r < setting .p) ⌝ }
 {
     secret::reduce_sum(setting.p, opened_sum(setting, row))
+}
+
+// What stands in the record for a share: "p itself stands for an absent share".
+fn shown(present: bool, share: u32, p: u32) -> u32
+    ensures { λ r. ⌜ r ≡ cond present share p ⌝ }
+{
+    if present { share } else { p }
+}
+
+// The n numbers of an opening go to the list, from a place on.
+pub fn put_opened(setting: Setting, list: &mut [u32], at: usize, row: Row)
+    requires { ⌜ Fitting setting × (at + setting .n ≤ length (now list)) ⌝ }
+    ensures { λ _. ⌜ now (list .exit) ≡ Lists.ontoAt at (Steps.recorded (settingOf setting) (row .shares)) (now (list .entry)) ⌝ }
+{
+    let opening = setting.opening;
+    let mut rest = opening.present;
+    let mut j = 0;
+    while j < setting.n {
+        list[at + j] = shown(rest % 2 == 1, row.shares[j], setting.p);
+        rest = rest / 2;
+        j += 1;
+    }
 }

@@ -66,7 +66,7 @@ module _ {s : List ℕ} {S : Setting} (h : S .n ≤ 7) {at : Places} {k : ℕ} {
       let x = step d in
       let L = first d (dealt-fewer j k D) in
       let R = rest (x .deal) (dealt-past j k (took d) D) in
-      let size : length (written (settingOf S) (x .opened)) ≡ j * (2 * S .n) = length-written (settingOf S) h (took d .rows) ∙ rw (took d .opens) (omega arith) in
+      let size : length (written (settingOf S) (x .opened)) ≡ j * (2 * S .n) = length-written (settingOf S) (x .opened) ∙ rw (took d .opens) (omega arith) in
       rw (does go d, ← L .row-is) (record { row-is = R .row-is; log-is = log-then (settingOf S) (at .log) (x .opened) _ log (L .log-is) size (R .log-is) })
 
   pub product-then : (x y : Row) (go : Row → Tree Row Row) → StepLeaves s S at 1 (product (settingOf S) x y) f log log′

@@ -6,13 +6,15 @@ use Prim.Native.Nat.{ℕ, suc, _+_, _*_, _≤_}
 use native.Mathlib.Omega.{arith}
 use lib.ListN.{length, getD}
 use Rattle.algebra.specs.Ring.{add, mul}
-use Rattle.algebra.proofs.Rows.{row-at, row-ext, Filling, filling-end}
-use Rattle.algebra.specs.Lists.{none, one}
+use Rattle.algebra.specs.Lists.{Below}
+use Rattle.algebra.proofs.Ring.{add-lt, sub-lt}
+use Rattle.algebra.proofs.Rows.{row-at, row-ext, row-below, Filling, filling-end}
+use Rattle.model.specs.Fields.{Modulus}
 use Rattle.model.specs.Bytes.{rowAt}
 use Rattle.model.specs.Sheet.{triplesFrom}
 use Rattle.model.specs.Deal as Paper
 use Rattle.model.specs.Steps.{Row, written, plus, minus, times, constant, nextTriple, beaver, byRows, product}
-use Rattle.model.proofs.Taking.{Seven, seven-minus}
+use Rattle.model.proofs.Polynomials.{positive}
 use Rattle.model.proofs.Written.{length-written}
 use Rattle.sharing.specs.Settings.{settingOf}
 use Rattle.sharing.specs.declared.setting.Setting.{Setting}
@@ -30,9 +32,19 @@ pub beaver-end : (S : Paper.Setting) (a1 b1 : ℕ) {both j : ℕ} (a b c : Row) 
 unfolding plus times constant
 beaver-end S a1 b1 a b c e F h = filling-end F h ∙ row-ext (S .n) _ _ (λ k l. rw e (simp row-at))
 
+-- sums and differences are below p, so that they may be opened
+module _ (S : Setting) (M : Modulus (S .p)) (x y : Row) {z : Row} where
+  pub plus-below : z ≡ plus (settingOf S) x y → Below (S .p) z
+  unfolding plus
+  plus-below e = rw e (record { at = λ i _. row-below (S .p) (S .n) _ (positive M) (λ j _. add-lt _ _ (positive M)) i })
+
+  pub minus-below : z ≡ minus (settingOf S) x y → Below (S .p) z
+  unfolding minus
+  minus-below e = rw e (record { at = λ i _. row-below (S .p) (S .n) _ (positive M) (λ j _. sub-lt _ _ (positive M)) i })
+
 -- an opened row is n numbers of the record
-pub one-opened : (S : Paper.Setting) (x : Row) → S .n ≤ 7 → Seven x → length (written S (x ∷ [])) ≡ S .n
-one-opened S x h e = length-written S h (one e none) ∙ omega arith
+pub one-opened : (S : Paper.Setting) (x : Row) → length (written S (x ∷ [])) ≡ S .n
+one-opened S x = length-written S (x ∷ []) ∙ omega arith
 
 pub product-leaves : {s : List ℕ} {S : Setting} {at : Places} (x y : Row) {a b c r : Row} {a1 b1 : ℕ} {log log′ log″ : List ℕ} → S .n ≤ 7
     → a ≡ rowAt s (S .n) (at .triple) → b ≡ rowAt s (S .n) (at .triple + 4 * S .n) → c ≡ rowAt s (S .n) (at .triple + 8 * S .n)
@@ -43,7 +55,7 @@ product-leaves {s} {S} {at} x y {a} {b} {c} {log = log} h ea eb ec A B er d D =
     rw next
     (record {
       row-is = er ∙ rw (A .value-is, B .value-is);
-      log-is = log-then (settingOf S) (at .log) (minus (settingOf S) x a ∷ []) (minus (settingOf S) y b ∷ []) log (A .log-is) (one-opened (settingOf S) _ h (seven-minus (settingOf S) h x a)) (B .log-is);
+      log-is = log-then (settingOf S) (at .log) (minus (settingOf S) x a ∷ []) (minus (settingOf S) y b ∷ []) log (A .log-is) (one-opened (settingOf S) _) (B .log-is);
     })
   where
     third : (i n : ℕ) → i + 8 * n ≡ i + 4 * n * 2

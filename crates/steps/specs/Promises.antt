@@ -12,8 +12,8 @@ use Rattle.sharing.specs.Settings.{settingOf}
 use Rattle.sharing.specs.declared.setting.Setting.{Setting}
 use Rattle.steps.specs.declared.places.Places.{Places}
 
--- "Opening: the n shares go to the record, party 1 first, and the value at 0 becomes public.": v is that value, and the shares stand in the record
--- from a place on
+-- "Opening: the n shares go to the record, party 1 first, and the value at 0 becomes public.": v is that value, and the shares, or p for an absent one, stand in
+-- the record from a place on
 pub record Opens (S : Setting) (at : ℕ) (x : Row) (v : ℕ) (log log′ : List ℕ) : Type 0 where
   pub value-is : v ≡ value (settingOf S) x
   pub below : v < S .p

@@ -1,98 +1,72 @@
+-- `opening::opened_sum` meets its contract. The loop's invariant: the first i terms are summed.
+-- Assumes nothing.
+use Prim.Native.Nat.{suc, _+_, _-_, _*_, _^_, _≤_, _<_}
+use Rattle.model.specs.Presence.{openers}
+use Rattle.sharing.proofs.Opened.{Summing, summing-start, party-in, summing-more, summing-fits, summing-end}
+use borrow.Author.Needs.{needs}
+use lib.ListN.{length, getD}
+use mathlib.Core.Path.{_≡_}
+use native.Mathlib.Omega.{arith}
 use Rattle.sharing.proofs.opening.opened_sum.Statement.{statement}
 use Rattle.sharing.proofs.opening.opened_sum.Tie as tie
-use Rattle.sharing.proofs.opening.opened_sum.Reads as reads
-use Rattle.sharing.proofs.opening.opened_sum.Lts as lts
-use Rattle.sharing.proofs.secret.wide.Reads as wide-reads
 
 abbrev Inv-loop : tie.InvT-loop
-Inv-loop setting row opening sum₀ i₀ sum i = ?
+Inv-loop setting row opening sum₀ i₀ sum i = Summing (setting .p) (openers (setting .n) (setting .t) (setting .opening .present)) (row .shares) i sum
 
 abbrev μ-loop : tie.MeasureT-loop
-μ-loop setting row opening sum₀ i₀ sum i = ?
+μ-loop setting row opening sum₀ i₀ sum i = suc (setting .t) - i
 
--- src/opening.rt:23:5
 loop-holds : tie.Need-loop-holds Inv-loop μ-loop
-loop-holds c = ?
+loop-holds c = summing-start _ _ _
 
--- src/opening.rt:24:21
-mul-party : tie.Need-mul-party Inv-loop μ-loop
-mul-party c = ?
+sized : (s : tie.Start Inv-loop μ-loop) → length (s .args .setting .opening .parties) ≡ 4
+sized s = search needs
 
--- src/opening.rt:24:21
-element-copy-out-party : tie.Need-element-copy-out-party Inv-loop μ-loop
-element-copy-out-party c = ?
+-- this turn's party
+party : (c : tie.After-wide Inv-loop μ-loop)
+    → let s = c .before .before .before .before .before .before .before in
+    let j = getD (s .args .setting .opening .parties) (c .before .before .before .before .before .loop .i) 0 in
+    (1 ≤ j) × (j ≤ 7)
+party c =
+    let s = c .before .before .before .before .before .before .before in
+    party-in (s .args .setting) (s .pre .0) _ (sized s) (omega arith)
 
--- src/opening.rt:25:29
-mul-wide : tie.Need-mul-wide Inv-loop μ-loop
-mul-wide c = ?
-
--- src/opening.rt:25:29
-element-copy-out-wide : tie.Need-element-copy-out-wide Inv-loop μ-loop
-element-copy-out-wide c = ?
-
--- src/opening.rt:25:16
-wide-requires : tie.Need-wide-requires Inv-loop μ-loop
-wide-requires c κs = ?
-
--- src/opening.rt:25:75
 sub-wide : tie.Need-sub-wide Inv-loop μ-loop
-sub-wide c = ?
+sub-wide c = omega (arith, party c)
 
--- src/opening.rt:25:64
 mul-wide-2 : tie.Need-mul-wide-2 Inv-loop μ-loop
-mul-wide-2 c = ?
+mul-wide-2 c = omega (arith, party c)
 
--- src/opening.rt:25:64
 element-copy-out-wide-2 : tie.Need-element-copy-out-wide-2 Inv-loop μ-loop
-element-copy-out-wide-2 c = ?
+element-copy-out-wide-2 c = omega (arith, party c)
 
--- src/opening.rt:25:51
-wide-requires-2 : tie.Need-wide-requires-2 Inv-loop μ-loop
-wide-requires-2 c κs = ?
-
--- src/opening.rt:25:16
-mul-sum : tie.Need-mul-sum Inv-loop μ-loop
-mul-sum c = ?
-
--- src/opening.rt:25:9
-add-sum : tie.Need-add-sum Inv-loop μ-loop
-add-sum c = ?
-
--- src/opening.rt:26:9
-add-i : tie.Need-add-i Inv-loop μ-loop
-add-i c = ?
-
--- src/opening.rt:23:5
-loop-less : tie.Need-loop-less Inv-loop μ-loop
-loop-less c = ?
-
--- src/opening.rt:23:5
 loop-again : tie.Need-loop-again Inv-loop μ-loop
-loop-again c = ?
+loop-again c =
+    let l = c .before .before .before .before .before .before .before in
+    let s = l .before .before in
+    summing-more (s .args .setting) (s .pre .0) (l .loop .inv) (sized s) (omega arith) (c .before .before .wide .ensures .0) (c .wide2 .ensures .0)
 
--- src/opening.rt:16:1
+-- the sum with this turn's term fits, and so does the term
+fits : (c : tie.After-wide2 Inv-loop μ-loop)
+    → c .before .before .before .before .before .before .before .loop .sum + c .before .before .wide .result * c .wide2 .result < 2 ^ 64
+fits c =
+    let s = c .before .before .before .before .before .before .before .before .before in
+    summing-fits (s .args .setting) (s .pre .0) (loop-again c) (sized s) (s .pre .1)
+
+mul-sum : tie.Need-mul-sum Inv-loop μ-loop
+mul-sum c = omega (arith, fits c)
+
+add-sum : tie.Need-add-sum Inv-loop μ-loop
+add-sum c = omega (arith, fits c)
+
 returns : tie.Need-returns Inv-loop μ-loop
-returns c = ?
+returns c =
+    let l = c .before .before in
+    let s = l .before .before in
+    summing-end (s .args .setting) (s .pre .0) (l .loop .inv) (sized s) (omega arith)
 
 pub opened-sum-spec : {M : Type 1} → statement M
 opened-sum-spec =
     tie.close
-    (tie.spec
-    Inv-loop
-    μ-loop
-    loop-holds
-    mul-party
-    element-copy-out-party
-    mul-wide
-    element-copy-out-wide
-    wide-requires
-    sub-wide
-    mul-wide-2
-    element-copy-out-wide-2
-    wide-requires-2
-    mul-sum
-    add-sum
-    add-i
-    loop-less
-    loop-again
-    returns)
+    (tie.spec Inv-loop μ-loop loop-holds (λ c. search needs) (λ c. search needs) (λ c. search needs) (λ c. search needs) (λ c κs. search needs) sub-wide mul-wide-2
+    element-copy-out-wide-2 (λ c κs. search needs) mul-sum add-sum (λ c. search needs) (λ c. search needs) loop-again returns)

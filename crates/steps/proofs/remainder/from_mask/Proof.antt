@@ -1,6 +1,7 @@
 -- `remainder::from_mask` meets its contract: an opening, and what follows it.
 -- Assumes nothing.
 use Rattle.steps.proofs.Remainders.{mask-leaves}
+use Rattle.steps.proofs.Products.{plus-below}
 use Rattle.steps.proofs.Rooms.{room-kept}
 use borrow.Author.Needs.{needs}
 use Rattle.steps.proofs.remainder.from_mask.Statement.{statement}
@@ -24,4 +25,4 @@ returns c =
 pub from-mask-spec : {M : Type 1} → statement M
 from-mask-spec =
     tie.close
-    (tie.spec (λ c κs. search needs) (λ c κs. search needs) (λ c κs. search needs) (λ c κs. search needs) from-c-requires (λ c. search needs) returns)
+    (tie.spec (λ c κs. search needs) (λ c κs. search needs) (λ c κs. search (needs, plus-below)) (λ c κs. search needs) from-c-requires (λ c. search needs) returns)
