@@ -46,24 +46,25 @@ all-right [] ys ps = ps
 all-right (x ∷ xs) ys (one p ps) = all-right xs ys ps
 
 -- who is present decides nothing of secrets, masks and triples
-same-secrets : (b c : ℕ) (h : Header) (xs : List Row) → secrets (settingWith b h) xs ≡ secrets (settingWith c h) xs
-unfolding secrets
-same-secrets b c h [] = refl
-same-secrets b c h (x ∷ xs) = rw (same-secrets b c h xs)
+module _ (S T : Setting) (ep : S .p ≡ T .p) (et : S .t ≡ T .t) where
+  same-secrets : (xs : List Row) → secrets S xs ≡ secrets T xs
+  unfolding secrets
+  same-secrets [] = refl
+  same-secrets (x ∷ xs) = rw (same-secrets xs, ep, et)
 
-pub same-mask : (b c : ℕ) (h : Header) (m : List Row) → goodMask (settingWith b h) m ≡ goodMask (settingWith c h) m
-unfolding goodMask
-same-mask b c h m = rw (same-secrets b c h m)
+  pub same-mask : (m : List Row) → goodMask S m ≡ goodMask T m
+  unfolding goodMask
+  same-mask m = rw (same-secrets m, ep)
 
-pub same-triple : (b c : ℕ) (h : Header) (x : Triple) → goodTriple (settingWith b h) x ≡ goodTriple (settingWith c h) x
-unfolding goodTriple
-same-triple b c h x = refl
+  pub same-triple : (x : Triple) → goodTriple S x ≡ goodTriple T x
+  unfolding goodTriple
+  same-triple x = rw (ep, et)
 
 pub same-masks : (b c : ℕ) (h : Header) {ms : List (List Row)} → All (λ m. T (goodMask (settingWith b h) m)) ms → All (λ m. T (goodMask (settingWith c h) m)) ms
-same-masks b c h = all-map (λ m g. rw (same-mask c b h m) g)
+same-masks b c h = all-map (λ m g. rw (same-mask (settingWith c h) (settingWith b h) refl refl m) g)
 
 pub same-triples : (b c : ℕ) (h : Header) {xs : List Triple} → All (λ x. T (goodTriple (settingWith b h) x)) xs → All (λ x. T (goodTriple (settingWith c h) x)) xs
-same-triples b c h = all-map (λ x g. rw (same-triple c b h x) g)
+same-triples b c h = all-map (λ x g. rw (same-triple (settingWith c h) (settingWith b h) refl refl x) g)
 
 -- the tests of a sheet, passed
 pub record Sound (present : ℕ) (s : List ℕ) : Type 0 where

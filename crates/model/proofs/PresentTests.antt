@@ -31,7 +31,7 @@ all-same f g e (x ∷ xs) = rw (e x, all-same f g e xs)
 same-rows : (b c : ℕ) (h : Header) (input : List Row) (d : Deal) → rowTests (settingWith b h) input d ≡ rowTests (settingWith c h) input d
 unfolding rowTests
 same-rows b c h input d =
-    rw (all-same (goodMask (settingWith b h)) (goodMask (settingWith c h)) (same-mask b c h) (d .masks), all-same (goodTriple (settingWith b h)) (goodTriple (settingWith c h)) (same-triple b c h) (d .triples))
+    rw (all-same (goodMask (settingWith b h)) (goodMask (settingWith c h)) (same-mask (settingWith b h) (settingWith c h) refl refl) (d .masks), all-same (goodTriple (settingWith b h)) (goodTriple (settingWith c h)) (same-triple (settingWith b h) (settingWith c h) refl refl) (d .triples))
 
 module _ (present : ℕ) (s : List ℕ) where
   abbrev Set : Type 0

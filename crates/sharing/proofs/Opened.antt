@@ -1,19 +1,18 @@
--- The sum of an opening as a loop has it, term by term, and that it fits 64 bits.
+-- The sum of an opening, term by term, and that it fits 64 bits; and what stands in the record.
 -- Assumes nothing.
 use mathlib.Core.Path.{_≡_, refl, sym, ap, _∙_}
 use mathlib.Core.Bool.{cond}
-use mathlib.Core.List.{List, [], _∷_, _++_, map, List·Memᴰ as In, List·Memᴰ·head as here, List·Memᴰ·tail as there}
+use mathlib.Core.List.{List, [], _∷_, map}
 use Prim.Native.Nat.{ℕ, zero, suc, _+_, _-_, _*_, _/_, _%_, _^_, _≤_, _<_}
-use native.Mathlib.Nat.{add-zero, zero-add, add-assoc}
-use native.Mathlib.Numerals.{add-one}
+use native.Mathlib.Nat.{mul-le-mul}
+use native.Mathlib.Decide.{decLe}
 use native.Mathlib.Omega.{arith}
 use lib.Dec.{eqb}
 use lib.ListN.{length, getD, take}
-use lib.Seq.{length-take-le, take-suc, take-all, getD-take}
+use lib.Seq.{length-take-le, getD-take}
 use Rattle.algebra.specs.Lists.{Below, total}
 use Rattle.algebra.proofs.Lists.{below-any}
 use Rattle.algebra.proofs.Rows.{getD-tab}
-use Rattle.model.specs.Fields.{Modulus, modulus}
 use Rattle.model.specs.Deal as Paper
 use Rattle.model.specs.Presence.{isPresent, openers}
 use Rattle.model.specs.Sharing.{at, weight, weighted, valueFrom}
@@ -21,88 +20,85 @@ use Rattle.model.specs.Steps.{value, recorded}
 use Rattle.model.proofs.Polynomials.{positive}
 use Rattle.model.proofs.Presence.{openers-in, openers-distinct}
 use Rattle.model.proofs.Sharings.{nodes-distinct}
-use Rattle.model.proofs.SumFirst.{sum-first}
 use Rattle.model.proofs.Weights.{weight-lt, weighted-value}
-use Rattle.sharing.specs.Settings.{settingOf, Opens, Fitting}
+use Rattle.sharing.specs.Settings.{settingOf, partiesOf, weightsOf, Opens, Fitting}
 use Rattle.sharing.specs.declared.setting.Setting.{Setting}
-use Rattle.sharing.proofs.Testing.{at-place}
 use Rattle.sharing.proofs.Presences.{bit-left}
 
-total-append : (xs ys : List ℕ) (g : ℕ → ℕ) → total (xs ++ ys) g ≡ total xs g + total ys g
-unfolding total
-total-append [] ys g = sym (zero-add _)
-total-append (x ∷ xs) ys g = rw (total-append xs ys g) (sym (add-assoc _ _ _))
+-- four products, of which those past the first t + 1 are 0
+module _ (a b c d u v w z : ℕ) (f g : ℕ → ℕ) where
+  abbrev parties : List ℕ
+  parties = a ∷ b ∷ c ∷ d ∷ []
 
-total-next : (xs : List ℕ) (i : ℕ) (g : ℕ → ℕ) → i < length xs → total (take (suc i) xs) g ≡ total (take i xs) g + g (getD xs i 0)
-total-next xs i g h = rw (take-suc xs i 0 h, total-append (take i xs) (getD xs i 0 ∷ []) g) (unfold total in ap (λ (z : ℕ). total (take i xs) g + z) (add-zero (g (getD xs i 0))))
+  abbrev weights : List ℕ
+  weights = u ∷ v ∷ w ∷ z ∷ []
 
-total-most : (xs : List ℕ) (i : ℕ) (g : ℕ → ℕ) → total (take i xs) g ≤ total xs g
-unfolding total
-total-most xs zero g = omega arith
-total-most [] (suc i) g = omega arith
-total-most (x ∷ xs) (suc i) g = omega (arith, total-most xs i g)
+  four-terms : (t : ℕ) → t ≤ 3 → take (suc t) weights ≡ map f (take (suc t) parties) → ((i : ℕ) → suc t ≤ i → getD weights i 0 ≡ 0)
+      → u * g a + v * g b + w * g c + z * g d ≡ total (take (suc t) parties) (λ k. f k * g k)
+  unfolding total
+  four-terms t h e p = go t h (λ i. ap (λ (l : List ℕ). getD l i 0) e) p
+    where
+      go : (t : ℕ) → t ≤ 3 → ((i : ℕ) → getD (take (suc t) weights) i 0 ≡ getD (map f (take (suc t) parties)) i 0) → ((i : ℕ) → suc t ≤ i → getD weights i 0 ≡ 0)
+          → u * g a + v * g b + w * g c + z * g d ≡ total (take (suc t) parties) (λ k. f k * g k)
+      go zero h e p = unfold total in rw (e 0, p 1 (omega arith), p 2 (omega arith), p 3 (omega arith)) (omega arith)
+      go (suc zero) h e p = unfold total in rw (e 0, e 1, p 2 (omega arith), p 3 (omega arith)) (omega arith)
+      go (suc (suc zero)) h e p = unfold total in rw (e 0, e 1, e 2, p 3 (omega arith)) (omega arith)
+      go (suc (suc (suc zero))) h e p = unfold total in rw (e 0, e 1, e 2, e 3) (omega arith)
+      go (suc (suc (suc (suc t)))) h e p = absurd (omega arith)
 
 map-at : (f : ℕ → ℕ) (xs : List ℕ) (i : ℕ) → i < length xs → getD (map f xs) i 0 ≡ f (getD xs i 0)
 map-at f [] i h = absurd (omega arith)
 map-at f (x ∷ xs) zero h = refl
 map-at f (x ∷ xs) (suc i) h = map-at f xs i (omega arith)
 
-at-in : (xs : List ℕ) (i : ℕ) → i < length xs → In (getD xs i 0) xs
-at-in [] i h = absurd (omega arith)
-at-in (x ∷ xs) zero h = here refl
-at-in (x ∷ xs) (suc i) h = there (at-in xs i (omega arith))
+-- a product of 32-bit numbers fits
+pub product-fits : {a b : ℕ} → a < 2 ^ 32 → b < 2 ^ 32 → a * b < 2 ^ 64
+product-fits {a} {b} h k = omega (arith, mul-le-mul {n₁ = a} {m₁ = b} {n₂ = 4294967295} {m₂ = 4294967295} (omega arith) (omega arith))
 
--- the first i terms are summed, of the parties xs and the row x
-pub record Summing (p : ℕ) (xs x : List ℕ) (i s : ℕ) : Type 0 where
-  pub done : i ≤ length xs
-  pub is : s ≡ total (take i xs) (λ z. weight p xs z * at 0 x z)
-
-pub summing-start : (p : ℕ) (xs x : List ℕ) → Summing p xs x 0 0
-unfolding total
-summing-start p xs x = record { done = omega arith; is = refl }
-
--- the parties of a setting that fits, and their weights
+-- the points of a setting that fits
 module _ (S : Setting) (F : Fitting S) where
   abbrev xs : List ℕ
   xs = openers (S .n) (S .t) (S .opening .present)
 
-  pub many : length (S .opening .parties) ≡ 4 → length xs ≡ suc (S .t)
-  many l = sym (ap length (F .opens .parties)) ∙ length-take-le (suc (S .t)) (S .opening .parties) (omega (arith, F .threshold))
+  abbrev O : Opens (S .p) (S .n) (S .t) (S .opening)
+  O = F .opens
 
-  party-at : (i : ℕ) → i ≤ S .t → getD (S .opening .parties) i 0 ≡ getD xs i 0
-  party-at i h = sym (getD-take (suc (S .t)) (S .opening .parties) i 0 (omega arith)) ∙ ap (λ (l : List ℕ). getD l i 0) (F .opens .parties)
+  pub point-in : (i : ℕ) → i < 4 → (1 ≤ getD (partiesOf (S .opening)) i 0) × (getD (partiesOf (S .opening)) i 0 ≤ 7)
+  point-in i h = (O .some i h, omega (arith, O .low .at i h))
 
-  weight-at : (i : ℕ) → i < length xs → i ≤ S .t → getD (S .opening .weights) i 0 ≡ weight (S .p) xs (getD xs i 0)
-  weight-at i h k =
-      sym (getD-take (suc (S .t)) (S .opening .weights) i 0 (omega arith)) ∙ ap (λ (l : List ℕ). getD l i 0) (F .opens .weights) ∙ map-at (weight (S .p) xs) xs i h
+  weight-below : (i : ℕ) → i < 4 → getD (weightsOf (S .opening)) i 0 < S .p
+  weight-below i h = go (decLe i (S .t))
+    where
+      go : Dec (i ≤ S .t) → getD (weightsOf (S .opening)) i 0 < S .p
+      go (yes l) =
+          let ps = take (suc (S .t)) (partiesOf (S .opening)) in
+          let m : length ps ≡ suc (S .t) = length-take-le (suc (S .t)) (partiesOf (S .opening)) (omega (arith, F .threshold)) in
+          let e = getD-take (suc (S .t)) (weightsOf (S .opening)) i 0 (omega arith) in
+          rw (sym e ∙ ap (λ (l : List ℕ). getD l i 0) (O .weights .weights) ∙ map-at (weight (S .p) ps) ps i (omega arith))
+          (weight-lt (omega (arith, F .modulus .above)) ps (getD ps i 0))
+      go (no n) = rw (O .weights .past i (omega arith)) (positive (F .modulus))
 
-  pub party-in : (i : ℕ) → length (S .opening .parties) ≡ 4 → i ≤ S .t → (1 ≤ getD (S .opening .parties) i 0) × (getD (S .opening .parties) i 0 ≤ 7)
-  party-in i l h =
-      let m = openers-in (S .n) (S .t) (S .opening .present) _ (at-in xs i (omega (arith, many l))) in
-      rw (party-at i h) (m .0, omega (arith, F .parties, m .1))
+  module _ (x : List ℕ) (b : Below (S .p) x) where
+    share-below : (z : ℕ) → at 0 x z < S .p
+    share-below zero = positive (F .modulus)
+    share-below (suc j) = below-any (positive (F .modulus)) b j
 
-  module _ {x : List ℕ} {i s : ℕ} (Q : Summing (S .p) xs x i s) where
-    pub summing-more : {w v : ℕ} → length (S .opening .parties) ≡ 4 → i ≤ S .t → w ≡ getD (S .opening .weights) i 0
-        → v ≡ getD x (getD (S .opening .parties) i 0 - 1) 0 → Summing (S .p) xs x (i + 1) (s + w * v)
-    summing-more {w} {v} l h a b =
-        let k : i < length xs = omega (arith, many l) in
-        let v-is : v ≡ at 0 x (getD xs i 0) = b ∙ sym (at-place x (getD (S .opening .parties) i 0) (party-in i l h .0)) ∙ ap (at 0 x) (party-at i h) in
-        record { done = omega arith; is = rw (add-one, total-next xs i (λ z. weight (S .p) xs z * at 0 x z) k, Q .is, a, weight-at i k h, v-is) }
+    -- a term is at most (p − 1)², so that four fit 64 bits
+    pub term-most : (i : ℕ) → i < 4 → {r : ℕ} → r ≡ getD (weightsOf (S .opening)) i 0 * at 0 x (getD (partiesOf (S .opening)) i 0) → r ≤ 4611686009837453316
+    term-most i h e =
+        rw e
+        (mul-le-mul {n₂ = 2147483646} {m₂ = 2147483646} (omega (arith, weight-below i h, F .modulus .word))
+        (omega (arith, share-below (getD (partiesOf (S .opening)) i 0), F .modulus .word)))
 
-    pub summing-fits : length (S .opening .parties) ≡ 4 → Below (S .p) x → s < 2 ^ 64
-    summing-fits l b =
-        let M = F .modulus in
-        let four = rw (← (M .is)) at (sum-first .products-fit (M .number) (M .in-use) .four-products) in
-        let all = four xs (weight (S .p) xs) (at 0 x) (omega (arith, many l, F .threshold)) (λ z m. (weight-lt (omega (arith, M .above)) xs z, share-below z)) in
-        omega (arith, Q .is, total-most xs i (λ z. weight (S .p) xs z * at 0 x z))
-      where
-        share-below : (z : ℕ) → at 0 x z < S .p
-        share-below zero = positive (F .modulus)
-        share-below (suc j) = below-any (positive (F .modulus)) b j
-
-    pub summing-end : length (S .opening .parties) ≡ 4 → S .t < i → s ≡ weighted (S .p) xs (at 0 x)
-    unfolding weighted
-    summing-end l h = Q .is ∙ ap (λ (l : List ℕ). total l (λ z. weight (S .p) xs z * at 0 x z)) (take-all i xs (omega (arith, many l)))
+  pub summed : (x : List ℕ) {q r s t : ℕ} → q ≡ S .opening .first .weight * at 0 x (S .opening .first .party) → r ≡ S .opening .second .weight * at 0 x (S .opening .second .party)
+      → s ≡ S .opening .third .weight * at 0 x (S .opening .third .party) → t ≡ S .opening .fourth .weight * at 0 x (S .opening .fourth .party)
+      → q + r + s + t ≡ weighted (S .p) xs (at 0 x)
+  unfolding weighted
+  summed x eq er es et =
+      let o = S .opening in
+      rw (eq, er, es, et, ← (O .parties))
+      (four-terms (o .first .party) (o .second .party) (o .third .party) (o .fourth .party) (o .first .weight) (o .second .weight) (o .third .weight) (o .fourth .weight)
+      (weight (S .p) (take (suc (S .t)) (partiesOf o))) (at 0 x) (S .t) (F .threshold) (O .weights .weights) (O .weights .past))
 
   -- the value is the sum, reduced last
   pub value-reduced : (x : List ℕ) {s r : ℕ} → s ≡ weighted (S .p) xs (at 0 x) → r ≡ s % S .p → r ≡ value (settingOf S) x

@@ -1,6 +1,6 @@
 -- The lowest present parties as a loop finds them, party by party, and their weights.
 -- Assumes nothing.
-use mathlib.Core.Path.{_≡_, refl, sym, ap, _∙_}
+use mathlib.Core.Path.{_≡_, refl, sym, ap, subst, _∙_}
 use mathlib.Core.Logic.{_↔_}
 use mathlib.Core.Bool.{Bool, true, false, cond, _&&_}
 use mathlib.Core.List.{List, [], _∷_, _++_, map, map-append, append-nil}
@@ -20,8 +20,9 @@ use Rattle.algebra.proofs.Lists.{below-nil, below-head, below-tail, below-cons}
 use Rattle.model.specs.Fields.{inverse}
 use Rattle.model.specs.Presence.{bit, isPresent, presentIn, absentIn, openers, permittedSet, PermittedSet}
 use Rattle.model.specs.Sharing.{reciprocal, ratio, weight}
-use Rattle.sharing.specs.Settings.{LowestOf, Further, weightsAmong}
+use Rattle.sharing.specs.Settings.{LowestOf, Further, WeightsOf, partiesOf, weightsOf, Opens}
 use Rattle.sharing.specs.declared.presence.Found.{Found}
+use Rattle.sharing.specs.declared.presence.Opening.{Opening}
 
 -- bit j stands lowest once the bits before it are gone
 pub bit-left : (b j : ℕ) → bit b j ≡ eqb (b / 2 ^ j % 2) 1
@@ -62,6 +63,14 @@ below-set [] i B h = B
 below-set (x ∷ xs) zero B h = below-cons h (below-tail B)
 below-set (x ∷ xs) (suc i) B h = below-cons (below-head B) (below-set xs i (below-tail B) h)
 
+some-set : (n : ℕ) (l : List ℕ) (i : ℕ) {v : ℕ} → 1 ≤ v → ((k : ℕ) → k < n → 1 ≤ getD l k 0) → (k : ℕ) → k < n → 1 ≤ getD (set l i v) k 0
+some-set zero l i h s k m = absurd (omega arith)
+some-set (suc n) [] i h s k m = s k m
+some-set (suc n) (x ∷ xs) zero h s zero m = h
+some-set (suc n) (x ∷ xs) zero h s (suc k) m = s (suc k) m
+some-set (suc n) (x ∷ xs) (suc i) h s zero m = s zero m
+some-set (suc n) (x ∷ xs) (suc i) h s (suc k) m = some-set n xs i h (λ j l. s (suc j) (omega arith)) k (omega arith)
+
 -- the first e of a list, where it has fewer, and where it has so many
 short : (e : ℕ) (xs : List ℕ) → length (take e xs) < e → length xs < e
 short zero xs h = absurd (omega arith)
@@ -74,16 +83,24 @@ full (suc e) [] h = absurd (h (omega arith))
 full (suc e) (x ∷ xs) h = let r = full e xs (λ l. h (omega arith)) in omega arith
 
 -- what is found of the first j parties, and of one more
-pub lowest-start : (e b : ℕ) → LowestOf 0 e b (record { parties = 0 ∷ 0 ∷ 0 ∷ 0 ∷ []; count = 0; beyond = b })
+pub lowest-start : (e b : ℕ) → LowestOf 0 e b (record { parties = 1 ∷ 1 ∷ 1 ∷ 1 ∷ []; count = 0; beyond = b })
 unfolding from presentIn
 lowest-start e b =
-    let z : 0 < 8 = omega arith in
+    let z : 1 < 8 = omega arith in
     record {
       parties = sym (take-nil e);
       count = rw (take-nil {A = ℕ} e);
       beyond = rw div-one;
       low = below-cons z (below-cons z (below-cons z (below-cons z (below-nil 8))));
+      some = all-ones;
     }
+  where
+    all-ones : (i : ℕ) → i < 4 → 1 ≤ getD (1 ∷ 1 ∷ 1 ∷ 1 ∷ []) i 0
+    all-ones zero h = omega arith
+    all-ones (suc zero) h = omega arith
+    all-ones (suc (suc zero)) h = omega arith
+    all-ones (suc (suc (suc zero))) h = omega arith
+    all-ones (suc (suc (suc (suc i)))) h = absurd (omega arith)
 
 module _ {j e : ℕ} {x y : Found} where
   pub takes : j < 7 → e ≤ 4 → length (x .parties) ≡ 4 → x .beyond % 2 ≡ 1 → x .count < e
@@ -100,6 +117,7 @@ module _ {j e : ℕ} {x y : Found} where
         count = rw (next, length-append, R .count, all);
         beyond = rw (R .beyond) (shifted b j);
         low = below-set (x .parties) (x .count) (R .low) (omega arith);
+        some = some-set 4 (x .parties) (x .count) (omega arith) (R .some);
       })
 
   pub enough : e ≤ x .count → y ≡ record { parties = x .parties; count = x .count; beyond = x .beyond / 2 } → Further j e x y
@@ -107,12 +125,12 @@ module _ {j e : ℕ} {x y : Found} where
       let P = presentIn b (from 1 j) in
       let same : take e (presentIn b (from 1 (suc j))) ≡ take e P =
       rw (more b j) (take-append-le e P (presentIn b (suc j ∷ [])) (full e P (λ l. omega (arith, c, R .count)))) in
-      rw q (record { parties = rw same (R .parties); count = rw same (R .count); beyond = rw (R .beyond) (shifted b j); low = R .low })
+      rw q (record { parties = rw same (R .parties); count = rw same (R .count); beyond = rw (R .beyond) (shifted b j); low = R .low; some = R .some })
 
   pub absent : (x .beyond % 2 ≡ 1 → ⊥) → y ≡ record { parties = x .parties; count = x .count; beyond = x .beyond / 2 } → Further j e x y
   absent o q b R =
       let same = none-more b j (λ h. o (rw (R .beyond) h)) in
-      rw q (record { parties = rw same (R .parties); count = rw same (R .count); beyond = rw (R .beyond) (shifted b j); low = R .low })
+      rw q (record { parties = rw same (R .parties); count = rw same (R .count); beyond = rw (R .beyond) (shifted b j); low = R .low; some = R .some })
 
 -- the test of a set
 module _ {n b : ℕ} (t : ℕ) {x : Found} (R : LowestOf n (t + 1) b x) where
@@ -166,3 +184,22 @@ ratio-same p x z h e = (unfold ratio in rw (eq-eqb z x e), h)
 
 pub ratio-other : (p x z : ℕ) {a b d r : ℕ} → (z ≡ x → ⊥) → a ≡ inverse p (z - x) → b ≡ inverse p (x - z) → d ≡ sub p a b → r ≡ mul p z d → r ≡ ratio p x z
 ratio-other p x z n ea eb ed er = unfold ratio reciprocal in rw (ne-eqb z x n, ← ea, ← eb, ← ed) er
+
+-- the points of what was found
+pub four : (l : List ℕ) → length l ≡ 4 → getD l 0 0 ∷ getD l 1 0 ∷ getD l 2 0 ∷ getD l 3 0 ∷ [] ≡ l
+four [] e = absurd (omega arith)
+four (a ∷ []) e = absurd (omega arith)
+four (a ∷ b ∷ []) e = absurd (omega arith)
+four (a ∷ b ∷ c ∷ []) e = absurd (omega arith)
+four (a ∷ b ∷ c ∷ d ∷ []) e = refl
+four (a ∷ b ∷ c ∷ d ∷ x ∷ xs) e = absurd (omega arith)
+
+pub opens-by : {p n t b : ℕ} {x : Found} {ws : List ℕ} (o : Opening) → LowestOf n (suc t) b x → PermittedSet n t b → WeightsOf p (x .parties) (suc t) ws
+    → o .present ≡ b → partiesOf o ≡ x .parties → weightsOf o ≡ ws → Opens p n t o
+opens-by {p} {n} {t} o R Q W eb ep ew =
+    record {
+      parties = ap (take (suc t)) ep ∙ worked-from R Q ∙ ap (openers n t) (sym eb);
+      weights = subst (λ (l : List ℕ). WeightsOf p l (suc t) (weightsOf o)) (sym ep) (subst (WeightsOf p _ (suc t)) (sym ew) W);
+      some = subst (λ (l : List ℕ). (i : ℕ) → i < 4 → 1 ≤ getD l i 0) (sym ep) (R .some);
+      low = subst (Below 8) (sym ep) (R .low);
+    }

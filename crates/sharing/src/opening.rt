@@ -1,32 +1,35 @@
 // The value that an opening gives, and the shares that it shows.
 ghost use mathlib.Core.Path.{_≡_};
 ghost use mathlib.Core.Bool.{cond};
-ghost use Prim.Native.Nat.{_+_, _≤_, _<_};
+ghost use Prim.Native.Nat.{_+_, _*_, _≤_, _<_};
 ghost use lib.ListN.{length};
 ghost use Rattle.algebra.specs.Lists as Lists;
 ghost use Rattle.model.specs.Sharing as Sharing;
 ghost use Rattle.model.specs.Presence as Presence;
 ghost use Rattle.model.specs.Steps as Steps;
 ghost use Rattle.sharing.specs.Settings.{settingOf, Fitting};
+use crate::presence::Point;
 use crate::rows::Row;
 use crate::secret;
 use crate::setting::Setting;
 
+// A party's weight times its share.
+fn term(point: Point, row: Row) -> u64
+    requires { ⌜ (1 ≤ point .party) × (point .party ≤ 7) ⌝ }
+    ensures { λ r. ⌜ r ≡ point .weight * Sharing.at 0 (row .shares) (point .party) ⌝ }
+{
+    secret::wide(point.weight) * secret::wide(row.shares[point.party - 1])
+}
+
 // The sum before reducing, of the shares of the lowest t + 1 present parties: each times its weight below p, added. Shares below p are asked for, since
-// the weights of other parties than 1 to t + 1 are any numbers below p.
+// the weights of other parties than 1 to t + 1 are any numbers below p. Products past these are 0.
 fn opened_sum(setting: Setting, row: Row) -> u64
     requires { ⌜ Fitting setting × Lists.Below (setting .p) (row .shares) ⌝ }
     ensures { λ r. ⌜ r ≡ Sharing.weighted (setting .p) (Presence.openers (setting .n) (setting .t) (setting .opening .present)) (Sharing.at 0 (row .shares)) ⌝ }
 {
     let opening = setting.opening;
-    let mut sum: u64 = 0;
-    let mut i = 0;
-    while i <= setting.t {
-        let party = opening.parties[i];
-        sum += secret::wide(opening.weights[i]) * secret::wide(row.shares[party - 1]);
-        i += 1;
-    }
-    sum
+    let low = term(opening.first, row) + term(opening.second, row);
+    low + term(opening.third, row) + term(opening.fourth, row)
 }
 
 // The value at 0 that these shares give.

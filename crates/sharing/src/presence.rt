@@ -6,15 +6,39 @@ ghost use Rattle.algebra.specs.Lists as Lists;
 ghost use Rattle.model.specs.Fields as Fields;
 ghost use Rattle.model.specs.Presence as Presence;
 ghost use Rattle.model.specs.Sharing as Sharing;
-ghost use Rattle.sharing.specs.Settings.{LowestOf, Further, weightsAmong, Opens};
+ghost use Rattle.sharing.specs.Settings.{LowestOf, Further, WeightsOf, Opens};
 use field::arithmetic;
 use field::table;
 
-// How a run works its openings: the byte that says who is present, and in the first t + 1 places the parties and their weights.
+// A party and its weight.
+pub struct Point {
+    pub party: usize,
+    pub weight: u32,
+}
+
+// How a run works its openings: the byte that says who is present, and the lowest t + 1 present parties with their weights. Points past these have the
+// weight 0. They are no list, since a frame has them, and what is found of a sheet is an enum, which may hold no list.
 pub struct Opening {
     pub present: u32,
-    pub parties: [usize; 4],
-    pub weights: [u32; 4],
+    pub first: Point,
+    pub second: Point,
+    pub third: Point,
+    pub fourth: Point,
+}
+
+// Where nothing is opened.
+pub fn no_opening() -> Opening {
+    let none = Point {
+        party: 1,
+        weight: 0,
+    };
+    Opening {
+        present: 0,
+        first: none,
+        second: none,
+        third: none,
+        fourth: none,
+    }
 }
 
 // The lowest present parties, how many there are of them, and what is left of the byte past the bits of parties 1 to n.
@@ -64,7 +88,7 @@ pub fn lowest(n: usize, e: usize, present: u32) -> Found
     ensures { λ r. ⌜ LowestOf n e present r ⌝ }
 {
     let mut found = Found {
-        parties: [0usize; 4],
+        parties: [1usize; 4],
         count: 0,
         beyond: present,
     };
@@ -127,7 +151,7 @@ fn weight_among(field: usize, parties: [usize; 4], e: usize, x: usize) -> u32
 
 fn weights_among(field: usize, parties: [usize; 4], e: usize) -> [u32; 4]
     requires { ⌜ Fields.InUse field × (e ≤ 4) × Lists.Below 8 parties ⌝ }
-    ensures { λ r. ⌜ take e r ≡ weightsAmong (Fields.modulus field) (take e parties) ⌝ }
+    ensures { λ r. ⌜ WeightsOf (Fields.modulus field) parties e r ⌝ }
 {
     let mut weights = [0u32; 4];
     let mut i = 0;
@@ -147,9 +171,27 @@ pub fn opening_of(field: usize, n: usize, t: usize, present: u32) -> Opening
     let found = lowest(n, e, present);
     let parties = found.parties;
     let weights = weights_among(field, parties, e);
+    let first = Point {
+        party: parties[0],
+        weight: weights[0],
+    };
+    let second = Point {
+        party: parties[1],
+        weight: weights[1],
+    };
+    let third = Point {
+        party: parties[2],
+        weight: weights[2],
+    };
+    let fourth = Point {
+        party: parties[3],
+        weight: weights[3],
+    };
     Opening {
         present,
-        parties,
-        weights,
+        first,
+        second,
+        third,
+        fourth,
     }
 }

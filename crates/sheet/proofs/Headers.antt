@@ -12,11 +12,14 @@ use lib.ListN.{getD}
 use Rattle.algebra.proofs.Tests.{and-both}
 use Rattle.model.specs.Bytes.{number}
 use Rattle.model.specs.Deal.{Row, Deal}
+use Rattle.model.specs.Presence.{PermittedSet}
 use Rattle.model.specs.Fields.{Modulus, modulus, bits, largestK}
-use Rattle.model.specs.Sheet.{Header, headerOf, headerSize, maskBits, largestIn, settingOf, limits, impliedLength, inputIn, dealIn, dealRows, rowsAt, Permitted}
+use Rattle.model.specs.Sheet.{Header, headerOf, headerSize, maskBits, largestIn, settingWith, limits, impliedLength, inputIn, dealIn, dealRows, rowsAt, Permitted}
 use Rattle.model.proofs.SheetDeal.{all-rows}
 use Rattle.model.proofs.Lengths.{header-field, mask-bits-most, fitting, length-most}
-use Rattle.sheet.specs.Framed.{settingIn, inputsOf, dealOf, Headed}
+use Rattle.sharing.specs.Settings.{Opens}
+use Rattle.sheet.specs.Framed.{settingIn, inputsOf, dealOf, Headed, Presented}
+use Rattle.sharing.specs.declared.presence.Opening.{Opening}
 use Rattle.sheet.specs.declared.frame.Frame.{Frame}
 
 pub header-is : (s : List ℕ) {field n t inputs masks triples script : ℕ} → field ≡ getD s 0 0 → n ≡ getD s 1 0 → t ≡ getD s 2 0 → inputs ≡ number 2 s 3
@@ -26,7 +29,7 @@ unfolding headerOf
 header-is s a b c d e f g = λ i. record { field = a i; n = b i; t = c i; inputs = d i; masks = e i; triples = f i; script = g i }
 
 -- the frame of a permitted header
-pub frame-is : (h : Header) {p l k : ℕ} → Permitted h → p ≡ modulus (h .field) → l ≡ bits (h .field) → k ≡ largestK (h .field) → Headed h (record {
+pub frame-is : (h : Header) {p l k : ℕ} {o : Opening} → Permitted h → p ≡ modulus (h .field) → l ≡ bits (h .field) → k ≡ largestK (h .field) → Headed h (record {
   p = p;
   l = l;
   largest = k;
@@ -39,6 +42,7 @@ pub frame-is : (h : Header) {p l k : ℕ} → Permitted h → p ≡ modulus (h .
   input = 11 + h .script;
   mask = 11 + h .script + 4 * h .n * h .inputs;
   triple = 11 + h .script + 4 * h .n * h .inputs + 4 * h .n * l * h .masks;
+  opening = o;
 })
 unfolding headerSize maskBits largestIn
 frame-is h P ep el ek =
@@ -64,10 +68,57 @@ frame-is h P ep el ek =
       triples-place = refl;
     }
 
+-- the same frame, with its openings worked in another way
+pub headed-with : {h : Header} {f : Frame} (o : Opening) → Headed h f → Headed h (record {
+  p = f .p;
+  l = f .l;
+  largest = f .largest;
+  n = f .n;
+  t = f .t;
+  inputs = f .inputs;
+  masks = f .masks;
+  triples = f .triples;
+  script = f .script;
+  input = f .input;
+  mask = f .mask;
+  triple = f .triple;
+  opening = o;
+})
+headed-with o H =
+    record {
+      in-use = H .in-use;
+      p-is = H .p-is;
+      l-is = H .l-is;
+      k-is = H .k-is;
+      n-is = H .n-is;
+      t-is = H .t-is;
+      inputs-is = H .inputs-is;
+      masks-is = H .masks-is;
+      triples-is = H .triples-is;
+      script-is = H .script-is;
+      parties = H .parties;
+      inputs-most = H .inputs-most;
+      masks-most = H .masks-most;
+      triples-most = H .triples-most;
+      script-most = H .script-most;
+      inputs-place = H .inputs-place;
+      masks-place = H .masks-place;
+      triples-place = H .triples-place;
+    }
+
+pub presented : {h : Header} {f : Frame} {present : ℕ} {o : Opening} → Headed h f → PermittedSet (h .n) (h .t) present → (o .present ≡ present) × Opens (modulus (h .field)) (h .n) (h .t) o
+    → (f′ : Frame) → f′ .p ≡ f .p → f′ .n ≡ f .n → f′ .t ≡ f .t → f′ .opening ≡ o → Presented present f′
+presented {h} {f} {present} {o} H Q O f′ ep en et eo =
+    record {
+      present-is = rw eo (O .0);
+      permitted = rw (en, et, H .n-is, H .t-is) Q;
+      opens = rw (eo, ep, en, et, H .p-is, H .n-is, H .t-is) (O .1);
+    }
+
 -- what a frame says of its header
 module _ {h : Header} {f : Frame} (H : Headed h f) where
-  pub setting-is : settingOf h ≡ settingIn f
-  setting-is = λ i. record { p = sym (H .p-is) i; l = sym (H .l-is) i; n = sym (H .n-is) i; t = sym (H .t-is) i }
+  pub setting-is : {present : ℕ} → f .opening .present ≡ present → settingWith present h ≡ settingIn f
+  setting-is e = λ i. record { p = sym (H .p-is) i; l = sym (H .l-is) i; n = sym (H .n-is) i; t = sym (H .t-is) i; present = sym e i }
 
   -- input, deal and all rows
   module _ (s : List ℕ) where

@@ -5,17 +5,19 @@ use mathlib.Core.List.{List}
 use Prim.Native.Nat.{ℕ, _+_, _*_, _≤_}
 use lib.ListN.{length}
 use Rattle.model.specs.Fields.{InUse, Parties}
+use Rattle.model.specs.Presence.{PermittedSet}
 use Rattle.model.specs.Deal.{Setting, Row, Deal}
 use Rattle.model.specs.Sheet.{Header, headerOf, headerSize, maskBits, largestIn, settingOf, rowsAt, masksFrom, triplesFrom}
+use Rattle.sharing.specs.Settings.{Opens}
 use Rattle.sharing.specs.declared.setting.Setting as Declared
 use Rattle.sheet.specs.declared.frame.Frame.{Frame}
 
--- a frame's p, ℓ, n and t, as the code's setting and as the paper's
+-- a frame's p, ℓ, n, t and how openings are worked, as the code's setting and as the paper's
 abbrev pub settingFrom : Frame → Declared.Setting
-settingFrom f = record { p = f .p; l = f .l; n = f .n; t = f .t }
+settingFrom f = record { p = f .p; l = f .l; n = f .n; t = f .t; opening = f .opening }
 
 abbrev pub settingIn : Frame → Setting
-settingIn f = record { p = f .p; l = f .l; n = f .n; t = f .t }
+settingIn f = record { p = f .p; l = f .l; n = f .n; t = f .t; present = f .opening .present }
 
 -- input and deal of a sheet, at the places of its frame
 abbrev pub inputsOf : List ℕ → Frame → List Row
@@ -48,7 +50,21 @@ pub record Headed (h : Header) (f : Frame) : Type 0 where
   pub masks-place : f .mask ≡ f .input + 4 * f .n * f .inputs
   pub triples-place : f .triple ≡ f .mask + 4 * f .n * f .l * f .masks
 
--- The frame f of a sheet s that 1 to 4 do not refuse: it is as long as its header implies.
-pub record Framed (s : List ℕ) (f : Frame) : Type 0 where
+-- The frame f of a run with these parties present, a permitted set: its openings are worked from the lowest of them, with their weights.
+pub record Presented (present : ℕ) (f : Frame) : Type 0 where
+  pub present-is : f .opening .present ≡ present
+  pub permitted : PermittedSet (f .n) (f .t) present
+  pub opens : Opens (f .p) (f .n) (f .t) (f .opening)
+
+abbrev pub RunHeaded : ℕ → Header → Frame → Type 0
+RunHeaded present h f = Headed h f × Presented present f
+
+-- the sheet is as long as its header implies, by its frame
+abbrev pub Whole : List ℕ → Frame → Type 0
+Whole s f = length s ≡ f .triple + 4 * f .n * 3 * f .triples
+
+-- The frame f of a sheet s that 1 to 4 and 12 do not refuse.
+pub record Framed (present : ℕ) (s : List ℕ) (f : Frame) : Type 0 where
   pub headed : Headed (headerOf s) f
-  pub whole : length s ≡ f .triple + 4 * f .n * 3 * f .triples
+  pub presented : Presented present f
+  pub whole : Whole s f

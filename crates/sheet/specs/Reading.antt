@@ -2,7 +2,7 @@
 -- Assumes nothing.
 use mathlib.Core.Path.{_≡_}
 use mathlib.Core.Bool.{Bool}
-use mathlib.Core.List.{List}
+use mathlib.Core.List.{List, _++_}
 use Prim.Native.Nat.{ℕ, _<_}
 use Rattle.model.specs.Refusing.{firstFailed}
 use Rattle.model.specs.Sheet as Paper
@@ -28,6 +28,10 @@ told h =
 abbrev pub numberOf : Read → ℕ
 numberOf (Sheet f) = 0
 numberOf (Refused number) = number
+
+-- what a run tries of a header: 1, 2, 3, 12, and 4 for a count
+abbrev pub runTests : ℕ → List ℕ → List (Bool × ℕ)
+runTests present s = let h = Paper.headerOf s in Paper.headerTests s ++ (Paper.presentTests h present ++ Paper.limitTests h)
 
 -- what a reading answers: a frame of which something holds where no test refuses, or the number of the first that does
 abbrev pub Reads : List (Bool × ℕ) → (Frame → Type 0) → Read → Type 0

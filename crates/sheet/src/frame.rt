@@ -2,10 +2,12 @@
 ghost use mathlib.Core.Path.{_≡_};
 ghost use Prim.Native.Nat.{_+_, _*_, _≤_};
 ghost use Rattle.sheet.specs.Framed.{settingFrom};
+use sharing::presence::Opening;
 use sharing::setting::Setting;
 
 // What an accepted header says, by value: the field's numbers, the parties, how many input rows, masks and triples there are, the script's
-// length, and the places in the sheet's bytes of the first input row, the first mask and the first triple.
+// length, and the places in the sheet's bytes of the first input row, the first mask and the first triple. How openings are worked is found once, for a run;
+// a frame that is read for its header alone has zeros there.
 pub struct Frame {
     pub p: u32,
     pub l: usize,
@@ -19,6 +21,7 @@ pub struct Frame {
     pub input: usize,
     pub mask: usize,
     pub triple: usize,
+    pub opening: Opening,
 }
 
 impl Frame {
@@ -33,11 +36,13 @@ impl Frame {
     pub fn setting(self) -> Setting
         ensures { λ r. ⌜ r ≡ settingFrom self ⌝ }
     {
+        let opening = self.opening;
         Setting {
             p: self.p,
             l: self.l,
             n: self.n,
             t: self.t,
+            opening,
         }
     }
 }

@@ -1,14 +1,16 @@
-// The header: its numbers, the refusals 1 to 3 and that of its counts, and the frame that it gives.
+// The header: its numbers, the refusals 1 to 3, 12, and that of its counts, and the frame that it gives.
 ghost use mathlib.Core.Path.{_≡_};
 ghost use mathlib.Core.List.{_++_};
 ghost use Prim.Native.Nat.{_+_, _≤_, _<_};
 ghost use lib.ListN.{length};
 ghost use Rattle.model.specs.Refusing.{firstFailed};
 ghost use Rattle.model.specs.Sheet as Sheet;
-ghost use Rattle.sheet.specs.Framed.{Headed};
-ghost use Rattle.sheet.specs.Reading.{told, Reads};
+ghost use Rattle.model.specs.Presence.{PermittedSet, permittedSet};
+ghost use Rattle.sheet.specs.Framed.{Headed, Presented, RunHeaded};
+ghost use Rattle.sheet.specs.Reading.{told, Reads, runTests};
 use crate::frame::Frame;
 use field::table;
+use sharing::presence;
 
 // "That header is 11 bytes."
 const HEADER_SIZE: usize = 11;
@@ -61,6 +63,14 @@ fn within_limits(h: Header) -> bool
     h.script <= 1024
 }
 
+// Whether 12 does not refuse: no bit beyond n is set, and t + 1 parties are present.
+fn may_run(h: Header, present: u32) -> bool
+    requires { ⌜ (told h .n ≤ 7) × (told h .t ≤ 3) ⌝ }
+    ensures { λ r. ⌜ r ≡ permittedSet (told h .n) (told h .t) present ⌝ }
+{
+    presence::permitted(h.n as usize, h.t as usize, present)
+}
+
 // The frame of a header.
 fn frame_of(h: Header) -> Frame
     requires { ⌜ Sheet.Permitted (told h) ⌝ }
@@ -72,6 +82,7 @@ fn frame_of(h: Header) -> Frame
     let input = HEADER_SIZE + h.script;
     let mask = input + 4 * n * h.inputs;
     let triple = mask + 4 * n * l * h.masks;
+    let opening = presence::no_opening();
     Frame {
         p: table::modulus(field),
         l,
@@ -85,7 +96,19 @@ fn frame_of(h: Header) -> Frame
         input,
         mask,
         triple,
+        opening,
     }
+}
+
+// The frame of a header for a run with these parties present.
+fn run_frame_of(h: Header, present: u32) -> Frame
+    requires { ⌜ Sheet.Permitted (told h) × PermittedSet (told h .n) (told h .t) present ⌝ }
+    ensures { λ r. ⌜ Headed (told h) r × Presented present r ⌝ }
+{
+    let mut f = frame_of(h);
+    let opening = presence::opening_of(h.field as usize, h.n as usize, h.t as usize, present);
+    f.opening = opening;
+    f
 }
 
 // 1, 2, 3 or 0.
@@ -99,7 +122,27 @@ fn header_number(s: &[u8]) -> u32
     sharing::setting_number(h.field, h.n, h.t)
 }
 
-// The frame of a sheet's header, or the number of its refusal: 1, 2, 3, or 4 for a count. The length is not looked at.
+// The frame of a sheet's header for a run with these parties present, or the number of its refusal: 1, 2, 3, 12, or 4 for a count.
+pub fn read_run_header(s: &[u8], present: u32) -> Read
+    ensures { λ r. ⌜ Reads (runTests present (now (s .entry))) (RunHeaded present (Sheet.headerOf (now (s .entry)))) r ⌝ }
+{
+    let number = header_number(s);
+    if number != 0 {
+        return Read::Refused(number);
+    }
+    let h = read_numbers(s);
+    if may_run(h, present) {
+        if within_limits(h) {
+            Read::Sheet(run_frame_of(h, present))
+        } else {
+            Read::Refused(4)
+        }
+    } else {
+        Read::Refused(12)
+    }
+}
+
+// The frame of a sheet's header, or the number of its refusal: 1, 2, 3, or 4 for a count. The length is not looked at, nor who is present.
 pub fn read_header(s: &[u8]) -> Read
     ensures { λ r. ⌜ Reads (Sheet.headerTests (now (s .entry)) ++ Sheet.limitTests (Sheet.headerOf (now (s .entry)))) (Headed (Sheet.headerOf (now (s .entry)))) r ⌝ }
 {

@@ -1,4 +1,4 @@
-// The sheet: its header, where its parts stand, and the refusals 1 to 8.
+// The sheet: its header, where its parts stand, and the refusals 1 to 8 and 12.
 pub mod deal;
 pub mod frame;
 pub mod header;
@@ -10,17 +10,18 @@ ghost use lib.Dec.{eqb};
 ghost use lib.ListN.{length};
 ghost use Rattle.model.specs.Refusing.{firstFailed};
 ghost use Rattle.model.specs.Sheet as Sheet;
-ghost use Rattle.sheet.specs.Framed.{settingIn, inputsOf, dealOf, Headed, Framed};
+ghost use Rattle.sharing.specs.Settings.{Opens};
+ghost use Rattle.sheet.specs.Framed.{settingIn, inputsOf, dealOf, Headed, Whole, Framed};
 ghost use Rattle.sheet.specs.Reading.{Reads};
 use crate::frame::Frame;
 use crate::header::Read;
 use sharing::setting::Setting;
 
-// The frame of a sheet, or the paper's number of its refusal, 1 to 8.
-pub fn read_sheet(s: &[u8]) -> Read
-    ensures { λ r. ⌜ Reads (Sheet.sheetTests (now (s .entry))) (Framed (now (s .entry))) r ⌝ }
+// The frame of a sheet for a run with these parties present, or the number of its refusal, 1 to 8 or 12.
+pub fn read_sheet(s: &[u8], present: u32) -> Read
+    ensures { λ r. ⌜ Reads (Sheet.sheetTests present (now (s .entry))) (Framed present (now (s .entry))) r ⌝ }
 {
-    let read = header::read_header(s);
+    let read = header::read_run_header(s, present);
     let Read::Sheet(f) = read else {
         return read;
     };
@@ -41,7 +42,7 @@ pub fn has_implied_length(s: &[u8], f: Frame) -> bool
 
 // 4 for the sheet's length, then 5 to 8, or 0.
 fn body_number(s: &[u8], f: Frame) -> u32
-    requires { ⌜ Headed (Sheet.headerOf (now s)) f ⌝ }
+    requires { ⌜ Headed (Sheet.headerOf (now s)) f × Opens (f .p) (f .n) (f .t) (f .opening) ⌝ }
     ensures { λ r. ⌜ r ≡ firstFailed (Sheet.lengthTests (Sheet.headerOf (now (s .entry))) (now (s .entry)) ++ Sheet.rowTests (settingIn f) (inputsOf (now (s .entry)) f) (dealOf (now (s .entry)) f)) ⌝ }
 {
     if has_implied_length(s, f) {
@@ -53,14 +54,16 @@ fn body_number(s: &[u8], f: Frame) -> u32
 
 // 5 to 8, or 0: "each over the whole sheet before the next".
 fn rows_number(s: &[u8], f: Frame) -> u32
-    requires { ⌜ Framed (now s) f ⌝ }
+    requires { ⌜ Headed (Sheet.headerOf (now s)) f × Opens (f .p) (f .n) (f .t) (f .opening) × Whole (now s) f ⌝ }
     ensures { λ r. ⌜ r ≡ firstFailed (Sheet.rowTests (settingIn f) (inputsOf (now (s .entry)) f) (dealOf (now (s .entry)) f)) ⌝ }
 {
+    let opening = f.opening;
     let setting = Setting {
         p: f.p,
         l: f.l,
         n: f.n,
         t: f.t,
+        opening,
     };
     let count = f.rows();
     if rows::all_below(f.p, f.n, s, f.input, count) {

@@ -1,72 +1,56 @@
--- `opening::opened_sum` meets its contract. The loop's invariant: the first i terms are summed.
+-- `opening::opened_sum` meets its contract: four products fit, and those past the first t + 1 are 0.
 -- Assumes nothing.
-use Prim.Native.Nat.{suc, _+_, _-_, _*_, _^_, _≤_, _<_}
-use Rattle.model.specs.Presence.{openers}
-use Rattle.sharing.proofs.Opened.{Summing, summing-start, party-in, summing-more, summing-fits, summing-end}
+use Prim.Native.Nat.{_≤_}
+use Rattle.sharing.proofs.Opened.{point-in, term-most, summed}
 use borrow.Author.Needs.{needs}
-use lib.ListN.{length, getD}
-use mathlib.Core.Path.{_≡_}
 use native.Mathlib.Omega.{arith}
 use Rattle.sharing.proofs.opening.opened_sum.Statement.{statement}
 use Rattle.sharing.proofs.opening.opened_sum.Tie as tie
 
-abbrev Inv-loop : tie.InvT-loop
-Inv-loop setting row opening sum₀ i₀ sum i = Summing (setting .p) (openers (setting .n) (setting .t) (setting .opening .present)) (row .shares) i sum
+term-requires : tie.Need-term-requires
+term-requires c κs = let s = c .before in point-in (s .args .setting) (s .pre .0) 0 (omega arith)
 
-abbrev μ-loop : tie.MeasureT-loop
-μ-loop setting row opening sum₀ i₀ sum i = suc (setting .t) - i
+term-requires-2 : tie.Need-term-requires-2
+term-requires-2 c κs = let s = c .before .before in point-in (s .args .setting) (s .pre .0) 1 (omega arith)
 
-loop-holds : tie.Need-loop-holds Inv-loop μ-loop
-loop-holds c = summing-start _ _ _
+term-requires-3 : tie.Need-term-requires-3
+term-requires-3 c κs = let s = c .before .before .before in point-in (s .args .setting) (s .pre .0) 2 (omega arith)
 
-sized : (s : tie.Start Inv-loop μ-loop) → length (s .args .setting .opening .parties) ≡ 4
-sized s = search needs
+term-requires-4 : tie.Need-term-requires-4
+term-requires-4 c κs = let s = c .before .before .before .before in point-in (s .args .setting) (s .pre .0) 3 (omega arith)
 
--- this turn's party
-party : (c : tie.After-wide Inv-loop μ-loop)
-    → let s = c .before .before .before .before .before .before .before in
-    let j = getD (s .args .setting .opening .parties) (c .before .before .before .before .before .loop .i) 0 in
-    (1 ≤ j) × (j ≤ 7)
-party c =
-    let s = c .before .before .before .before .before .before .before in
-    party-in (s .args .setting) (s .pre .0) _ (sized s) (omega arith)
+-- the terms so far are at most (p − 1)² each
+two : (c : tie.After-term2) → (c .before .term .result ≤ 4611686009837453316) × (c .term2 .result ≤ 4611686009837453316)
+two c =
+    let s = c .before .before .before in
+    (term-most (s .args .setting) (s .pre .0) (s .args .row .shares) (s .pre .1) 0 (omega arith) (c .before .term .ensures),
+    term-most (s .args .setting) (s .pre .0) (s .args .row .shares) (s .pre .1) 1 (omega arith) (c .term2 .ensures))
 
-sub-wide : tie.Need-sub-wide Inv-loop μ-loop
-sub-wide c = omega (arith, party c)
+three : (c : tie.After-term3) → c .term3 .result ≤ 4611686009837453316
+three c =
+    let s = c .before .before .before .before in
+    term-most (s .args .setting) (s .pre .0) (s .args .row .shares) (s .pre .1) 2 (omega arith) (c .term3 .ensures)
 
-mul-wide-2 : tie.Need-mul-wide-2 Inv-loop μ-loop
-mul-wide-2 c = omega (arith, party c)
+four : (c : tie.After-term4) → c .term4 .result ≤ 4611686009837453316
+four c =
+    let s = c .before .before .before .before .before in
+    term-most (s .args .setting) (s .pre .0) (s .args .row .shares) (s .pre .1) 3 (omega arith) (c .term4 .ensures)
 
-element-copy-out-wide-2 : tie.Need-element-copy-out-wide-2 Inv-loop μ-loop
-element-copy-out-wide-2 c = omega (arith, party c)
+add-low : tie.Need-add-low
+add-low c = omega (arith, two c)
 
-loop-again : tie.Need-loop-again Inv-loop μ-loop
-loop-again c =
-    let l = c .before .before .before .before .before .before .before in
-    let s = l .before .before in
-    summing-more (s .args .setting) (s .pre .0) (l .loop .inv) (sized s) (omega arith) (c .before .before .wide .ensures .0) (c .wide2 .ensures .0)
+add-result : tie.Need-add-result
+add-result c = omega (arith, two (c .before), three c)
 
--- the sum with this turn's term fits, and so does the term
-fits : (c : tie.After-wide2 Inv-loop μ-loop)
-    → c .before .before .before .before .before .before .before .loop .sum + c .before .before .wide .result * c .wide2 .result < 2 ^ 64
-fits c =
-    let s = c .before .before .before .before .before .before .before .before .before in
-    summing-fits (s .args .setting) (s .pre .0) (loop-again c) (sized s) (s .pre .1)
+add-result-2 : tie.Need-add-result-2
+add-result-2 c = omega (arith, two (c .before .before), three (c .before), four c)
 
-mul-sum : tie.Need-mul-sum Inv-loop μ-loop
-mul-sum c = omega (arith, fits c)
-
-add-sum : tie.Need-add-sum Inv-loop μ-loop
-add-sum c = omega (arith, fits c)
-
-returns : tie.Need-returns Inv-loop μ-loop
+returns : tie.Need-returns
 returns c =
-    let l = c .before .before in
-    let s = l .before .before in
-    summing-end (s .args .setting) (s .pre .0) (l .loop .inv) (sized s) (omega arith)
+    let s = c .before .before .before .before .before in
+    summed (s .args .setting) (s .pre .0) (s .args .row .shares) (c .before .before .before .term .ensures) (c .before .before .term2 .ensures) (c .before .term3 .ensures) (c .term4 .ensures)
 
 pub opened-sum-spec : {M : Type 1} → statement M
 opened-sum-spec =
     tie.close
-    (tie.spec Inv-loop μ-loop loop-holds (λ c. search needs) (λ c. search needs) (λ c. search needs) (λ c. search needs) (λ c κs. search needs) sub-wide mul-wide-2
-    element-copy-out-wide-2 (λ c κs. search needs) mul-sum add-sum (λ c. search needs) (λ c. search needs) loop-again returns)
+    (tie.spec term-requires term-requires-2 add-low term-requires-3 add-result term-requires-4 add-result-2 returns)

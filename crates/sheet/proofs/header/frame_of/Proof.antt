@@ -38,5 +38,5 @@ pub frame-of-spec : {M : Type 1} → statement M
 frame-of-spec =
     tie.close
     (tie.spec (λ c. search needs) (λ c κs. search (needs, below-four)) (λ c. search needs) (λ c. search needs) add-input (λ c. search needs) mul-mask-2 add-mask
-    (λ c. search needs) mul-triple-2 mul-triple-3 add-triple (λ c κs. search needs) (λ c κs. search (needs, below-four)) (λ c. search needs)
+    (λ c. search needs) mul-triple-2 mul-triple-3 add-triple (λ c κs. search needs) (λ c κs. search needs) (λ c κs. search (needs, below-four)) (λ c. search needs)
     (λ c. search (needs, frame-is)))
