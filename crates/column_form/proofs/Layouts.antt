@@ -12,10 +12,10 @@ use Rattle.model.specs.Sheet.{headerOf, impliedLength, headerTests, limitTests,
 use Rattle.algebra.specs.Lists.{onto}
 use Rattle.model.specs.Columns.{shapeTests, outputTests, turnTests, turnNumber, outputLeft}
 use Rattle.model.proofs.Trying.{given-done, given-refused, passes, fails, nothing-left, told}
-use Rattle.sheet.specs.Framed.{Headed, Framed}
+use Rattle.sheet.specs.Framed.{Headed, Whole}
 use Rattle.sheet.specs.Reading.{Reads}
 use Rattle.sheet.proofs.Headers.{row-count, end-most}
-use Rattle.sheet.proofs.Answers.{framed, refuses-first, passes-first}
+use Rattle.sheet.proofs.Answers.{whole, header, header-tests-numbered, refuses-first, passes-first}
 use Rattle.sheet.specs.declared.frame.Frame.{Frame}
 use Rattle.sheet.specs.declared.header.Read.{Read}
 use Rattle.sheet.specs.declared.header.Read.the-variants.{Sheet, Refused}
@@ -23,17 +23,16 @@ use Rattle.column_form.specs.Laid.{LaidOut, Laid}
 use Rattle.column_form.specs.declared.layout.Layout.{Layout}
 
 -- where the shares of a frame stand
-stands-in : {s : List ℕ} {f : Frame} {room : ℕ} {r : Layout} → Framed s f → length s ≤ room → r .place ≡ f .input
+stands-in : (s : List ℕ) {f : Frame} {room : ℕ} {r : Layout} → Headed (headerOf s) f → Whole s f → length s ≤ room → r .place ≡ f .input
     → r .rows ≡ f .inputs + f .l * f .masks + 3 * f .triples → r .parties ≡ f .n → LaidOut s room r
-stands-in {s} {f} {room} F h place rows parties =
-    let H = F .headed in
+stands-in s {f} {room} H W h place rows parties =
     record {
       place = place ∙ H .inputs-place ∙ rw (H .script-is);
       rows = rows ∙ rw (H .inputs-is, H .l-is, H .masks-is, H .triples-is) (omega arith);
       parties = parties ∙ H .n-is;
-      whole = F .whole ∙ rw (place, rows, parties, H .triples-place, H .masks-place) (omega arith);
+      whole = W ∙ rw (place, rows, parties, H .triples-place, H .masks-place) (omega arith);
       fits = h;
-      most = rw (F .whole) (end-most H);
+      most = rw W (end-most H);
       most-rows = rw rows (row-count H);
       most-parties = rw parties (H .parties .most);
     }
@@ -47,7 +46,7 @@ module _ (s : List ℕ) {f : Frame} (H : Headed (headerOf s) f) (room : ℕ) {a 
   long-enough t h e place rows parties =
       record {
         number = e ∙ passes 4 _ (told q t) (passes 15 [] (le-leb (length s) room h) nothing-left);
-        stands = λ z. stands-in (framed s H q t) h place rows parties;
+        stands = λ z. stands-in s H (whole s H q t) h place rows parties;
       }
 
   pub too-short : {r : Layout} → a ≡ true → room < length s → r .number ≡ 15 → Laid (lengthTests (headerOf s) s ++ outputTests s room) s room r
@@ -69,12 +68,12 @@ by-lengths s room =
 
 module _ (s : List ℕ) {r : Read} (A : Reads (headerTests s ++ limitTests (headerOf s)) (Headed (headerOf s)) r) (room : ℕ) where
   pub header-passes : {f : Frame} {l : Layout} → r ≡ Sheet f → Laid (lengthTests (headerOf s) s ++ outputTests s room) s room l → Laid (turnTests s room) s room l
-  header-passes e L = record { number = rw (by-lengths s room) (passes-first s A e _ (L .number)); stands = L .stands }
+  header-passes e L = record { number = rw (by-lengths s room) (passes-first (header s) (Headed (headerOf s)) A e (header-tests-numbered s) _ (L .number)); stands = L .stands }
 
   pub header-refused : {k : ℕ} {l : Layout} → r ≡ Refused k → l .number ≡ k → Laid (turnTests s room) s room l
   header-refused {k} {l} e q =
       let B : Reads (headerTests s ++ limitTests (headerOf s) ++ (lengthTests (headerOf s) s ++ outputTests s room)) (λ f. Unit {0}) (Refused k) =
-      rw e at (refuses-first s A (lengthTests (headerOf s) s ++ outputTests s room) (λ f. Unit {0}) e) in
+      rw e at (refuses-first (header s) (Headed (headerOf s)) A (lengthTests (headerOf s) s ++ outputTests s room) (λ f. Unit {0}) e) in
       record { number = q ∙ rw (by-lengths s room) (B .0); stands = λ z. absurd (omega (arith, B .1)) }
 
 -- what is left in the output: the form that was made, or what was there

@@ -7,6 +7,7 @@ use native.Mathlib.Nat.{le-div-iff-mul-le}
 use native.Mathlib.Omega.{arith}
 use lib.Dec.{T}
 use lib.ListN.{length}
+use Rattle.algebra.specs.Lists.{Below}
 use Rattle.model.specs.Counts as Paper
 use Rattle.model.specs.Script.{Command, inRanges}
 use Rattle.model.specs.Costs.{cost}
@@ -20,6 +21,7 @@ use Rattle.costs.specs.declared.counts.Counts.{Counts}
 use Rattle.costs.specs.declared.cost.Cost.{Cost}
 use Rattle.costs.specs.declared.spent.Spent.{Spent}
 use Rattle.costs.specs.Costing.{countsOf, costOf, spentOf, Costs, Within, Summing, Supplied, Checkable, supplyIn}
+use Rattle.machine.specs.Cells.{registerIn}
 use Rattle.machine.specs.Holding.{Lent, Ready}
 use Rattle.machine.proofs.Readiness.{field-of, fitting}
 
@@ -40,6 +42,7 @@ pub record Trying (s : List ℕ) (f : Frame) (supply : Counts) (k : Spent) (c : 
   pub framed : Framed s f
   pub ranged : T (inRanges (f .p) (f .largest) c)
   pub size : length (m .cells) ≡ 448
+  pub below : (a : ℕ) → a < 64 → Below (f .p) (registerIn (m .cells) a)
   pub supplied : Supplied (supplyIn f (length (m .log)) (length (m .shown))) supply
   pub words : Words supply
   pub within : Within (countsOf (k .counts)) (countsOf supply)
@@ -66,6 +69,7 @@ module _ {s : List ℕ} {f : Frame} {supply : Counts} {k : Spent} {c : Command} 
               framed = t .framed;
               ranged = t .ranged;
               size = t .size;
+              below = t .below;
               inputs = passed .inputs;
               masks = passed .masks;
               triples = passed .triples;

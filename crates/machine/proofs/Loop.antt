@@ -33,7 +33,8 @@ use Rattle.machine.specs.Answers.{Payable, Finishes, Running, Reaches}
 use Rattle.machine.proofs.Going.{Course, wholeRun, Going, going-start, at-end, at-refusal}
 use Rattle.machine.proofs.Going as Go
 use Rattle.machine.proofs.Attempts.{Words, Numbers, Trying, costable, checkable, number-is, ready, summing, paid-within}
-use Rattle.machine.proofs.Whole.{stop-is, counting, carries-start}
+use Rattle.machine.proofs.Whole.{stop-is, counting, shares-low, carries-start}
+use Rattle.machine.proofs.Keeping.{register-is}
 
 -- scripts that are accepted: END's, and one with a line before it
 not-refused : {n i end : ℕ} {xs : List Line} → refused n i ≡ accepted xs end → ⊥
@@ -72,7 +73,7 @@ line-is x (accepted ys end′) e = (sym (ap lines-in e), ap (accepted ys) (ap en
 line-is x (refused n i) e = absurd (not-refused e)
 
 -- the run of an accepted sheet, and its going on from the lines that are left
-abbrev course : (s : List ℕ) → Frame → List ℕ → List ℕ → Accepted s → Course
+abbrev course : (s : List ℕ) (f : Frame) → List ℕ → List ℕ → Accepted (f .opening .present) s → Course
 course s f log₀ shown₀ A =
     record {
       setting = settingIn f;
@@ -126,7 +127,7 @@ module _ {s : List ℕ} {f : Frame} {script : List ℕ} (R : Running s f script)
 
 module _ {s : List ℕ} {f : Frame} {script log₀ shown₀ : List ℕ} {supply : Counts} {t : Table} {log shown : List ℕ} {at : ℕ}
     (L : Looping s f script log₀ shown₀ supply t log shown at) where
-  abbrev A : Accepted s
+  abbrev A : Accepted (f .opening .present) s
   A = L .running .is-accepted
 
   abbrev C : Course
@@ -138,7 +139,7 @@ module _ {s : List ℕ} {f : Frame} {script log₀ shown₀ : List ℕ} {supply 
   -- the run stops here, with this number
   abbrev StopsHere : ℕ → Type 0
   StopsHere number =
-      Reaches (settingIn f) log₀ shown₀ (stopOf s (length log₀) (length shown₀)) (record { number = number; place = at; table = t }) log shown
+      Reaches (settingIn f) log₀ shown₀ (stopOf (f .opening .present) s (length log₀) (length shown₀)) (record { number = number; place = at; table = t }) log shown
 
   stops-here : {ys : List Line} {number : ℕ} (G : Before ys)
       → record { number = number; place = at; state = G .state } ≡ wholeRun C → StopsHere number
@@ -190,6 +191,7 @@ module _ {s : List ℕ} {f : Frame} {script log₀ shown₀ : List ℕ} {supply 
             framed = L .running .framed;
             ranged = read (f .p) (f .largest) script at (says (meant c) next) here .in-range;
             size = L .going .carries .size;
+            below = λ a h. rw (register-is (L .going .carries) a h) (shares-low (L .running .framed) A (length log₀) (length shown₀) (L .going .passes) a);
             supplied = rw (L .same-log, L .same-shown) (L .supplied);
             words = L .words;
             within = L .within;

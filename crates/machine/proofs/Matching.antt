@@ -26,7 +26,7 @@ use Rattle.steps.specs.declared.cut.Cut.{Cut}
 use Rattle.steps.specs.Places.{Room}
 use Rattle.steps.specs.Promises.{StepLeaves}
 use Rattle.steps.specs.Cuts.{CutRoom, CutLeaves}
-use Rattle.algebra.specs.Lists.{ontoAt}
+use Rattle.algebra.specs.Lists.{Below, ontoAt}
 use Rattle.machine.specs.Cells.{registerIn, Stored, Revealed}
 use Rattle.machine.proofs.Cells.{stored}
 use Rattle.machine.specs.Places.{placesOf, Reached}
@@ -78,11 +78,12 @@ module _ {s : List ℕ} {f : Frame} {k : Counts} {c : Command} {m : Lent} {S : S
         → Performs s f k (meant c) m (lent cells log (m .shown))
     compare-done is P = done (rw is (compare-performs (rw is at ready) (rw (K .setting, K .places) at P)))
 
-    pub reveal-asks : {a : ℕ} → meant c′ ≡ REVEAL a → Fitting S × (at .log + S .n ≤ length (m .log)) × (k .revealed < length (m .shown)) × (a < 64)
+    pub reveal-asks : {a : ℕ} → meant c′ ≡ REVEAL a → Fitting S × (at .log + S .n ≤ length (m .log)) × (k .revealed < length (m .shown)) × (a < 64) × Below (S .p) (registerIn (m .cells) a)
     unfolding costBy
     reveal-asks {a} is =
         let R : Ready s f k (REVEAL a) m = rw is at ready in
-        (fits, rw (K .setting, K .places) (omega (arith, R .room)), omega (arith, R .space), operands (f .p) (f .largest) (REVEAL a) (R .ranged) .0)
+        let h = operands (f .p) (f .largest) (REVEAL a) (R .ranged) .0 in
+        (fits, rw (K .setting, K .places) (omega (arith, R .room)), omega (arith, R .space), h, rw (K .setting) (R .below a h))
 
     pub reveal-done : {a : ℕ} {cells log shown : List ℕ} → meant c′ ≡ REVEAL a → cells ≡ m .cells
         → Revealed S at (registerIn (m .cells) a) (k .revealed) (m .log) (m .shown) log shown → Performs s f k (meant c) m (lent cells log shown)

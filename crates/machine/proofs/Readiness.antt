@@ -68,6 +68,7 @@ module _ {s : List ℕ} {f : Frame} (F : Framed s f) where
         parties = F .headed .parties .most;
         threshold = omega (arith, F .headed .parties .most, F .headed .parties .majority);
         bits = omega (arith, field-of .k-most, field-of .k-is);
+        opens = F .presented .opens;
       }
 
   module _ (k : Counts) where

@@ -30,15 +30,15 @@ pub record Finishes (s : List ℕ) (f : Frame) (c : Command) (t : Table) (log sh
   pub paid : spentOf (t′ .spent) ≡ pay (cost (settingIn f) c) (spentOf (t .spent))
   pub performs : Performs s f (countsOf (t .spent .counts)) c (lent (t .cells) log shown) (lent (t′ .cells) log′ shown′)
 
--- The sheet s has this frame, and 1 to 8 do not refuse it.
+-- The sheet s has this frame, and 1 to 8 and 12 do not refuse it, with the byte that the frame has.
 pub record Unrefused (s : List ℕ) (f : Frame) : Type 0 where
   pub framed : Framed s f
-  pub number : sheetNumber s ≡ 0
+  pub number : sheetNumber (f .opening .present) s ≡ 0
 
 -- The sheet s is run: it is accepted and has this frame and this script.
 pub record Running (s : List ℕ) (f : Frame) (script : List ℕ) : Type 0 where
   pub framed : Framed s f
-  pub is-accepted : Accepted s
+  pub is-accepted : Accepted (f .opening .present) s
   pub script-is : script ≡ scriptIn (headerOf s) s
 
 -- a run stopped as the paper's: number, place and what was spent, and what is lent carries its state

@@ -2,10 +2,10 @@
 -- Assumes nothing.
 use mathlib.Core.Path.{_≡_}
 use mathlib.Core.List.{List}
-use Prim.Native.Nat.{ℕ, _+_, _*_, _≤_}
+use Prim.Native.Nat.{ℕ, _+_, _*_, _≤_, _<_}
 use lib.Dec.{T}
 use lib.ListN.{length, drop}
-use Rattle.algebra.specs.Lists.{onto}
+use Rattle.algebra.specs.Lists.{Below, onto}
 use Rattle.model.specs.Bytes.{sevens}
 use Rattle.model.specs.Deal.{Setting}
 use Rattle.model.specs.Steps.{written}
@@ -16,6 +16,7 @@ use Rattle.model.specs.Run.{State, finish}
 use Rattle.sheet.specs.declared.frame.Frame.{Frame}
 use Rattle.sheet.specs.Framed.{settingIn, Framed}
 pub use Rattle.sheet.specs.Framed.{inputsOf, dealOf}
+use Rattle.machine.specs.Cells.{registerIn}
 
 -- what a run writes: the cells of the registers, the record and the revealed list
 pub record Lent : Type 0 where
@@ -42,11 +43,13 @@ pub record Counting (s : List ℕ) (f : Frame) (k : Counts) (x : State) : Type 0
   pub numbers : length (written (settingIn f) (x .opened)) ≡ f .n * k .openings
   pub shown : length (x .shown) ≡ k .revealed
 
--- A command may be performed: its operands are in range, and inputs, masks, triples and the room in both buffers suffice.
+-- A command may be performed: its operands are in range, inputs, masks, triples and the room in both buffers suffice, and all shares are below p, so that
+-- a register may be opened.
 pub record Ready (s : List ℕ) (f : Frame) (k : Counts) (c : Command) (m : Lent) : Type 0 where
   pub framed : Framed s f
   pub ranged : T (inRanges (f .p) (f .largest) c)
   pub size : length (m .cells) ≡ 448
+  pub below : (a : ℕ) → a < 64 → Below (f .p) (registerIn (m .cells) a)
   pub inputs : k .inputs + cost (settingIn f) c .counts .inputs ≤ f .inputs
   pub masks : k .masks + cost (settingIn f) c .counts .masks ≤ f .masks
   pub triples : k .triples + cost (settingIn f) c .counts .triples ≤ f .triples

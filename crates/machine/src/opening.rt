@@ -2,6 +2,7 @@
 ghost use mathlib.Core.Path.{_≡_};
 ghost use Prim.Native.Nat.{_+_, _-_, _*_, _≤_, _<_};
 ghost use lib.ListN.{length, drop};
+ghost use Rattle.algebra.specs.Lists.{Below};
 ghost use Rattle.model.specs.Bytes as Bytes;
 ghost use Rattle.model.specs.Steps as Steps;
 ghost use Rattle.sharing.specs.Settings.{settingOf, Fitting};
@@ -83,7 +84,7 @@ impl Table {
         revealed: &mut [u32],
         a: usize,
     ) -> Table
-        requires { ⌜ Fitting setting × (at .log + setting .n ≤ length (now log)) × (self .spent .counts .revealed < length (now revealed)) × (a < 64) ⌝ }
+        requires { ⌜ Fitting setting × (at .log + setting .n ≤ length (now log)) × (self .spent .counts .revealed < length (now revealed)) × (a < 64) × Below (setting .p) (registerIn (self .cells) a) ⌝ }
         ensures { λ r. ⌜ Revealed setting at (registerIn (self .cells) a) (self .spent .counts .revealed) (now (log .entry)) (now (revealed .entry)) (now (log .exit)) (now (revealed .exit)) × (r ≡ self) ⌝ }
     {
         let counts = self.spent.counts;

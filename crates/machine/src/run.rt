@@ -25,7 +25,7 @@ pub struct Answer {
 // ends the run".
 fn run_script(f: Frame, s: &[u8], script: &[u8], log: &mut [u32], revealed: &mut [u32]) -> Answer
     requires { ⌜ Running (now s) f (now script) ⌝ }
-    ensures { λ r. ⌜ Reaches (settingIn f) (now (log .entry)) (now (revealed .entry)) (Run.stopOf (now (s .entry)) (length (now (log .entry))) (length (now (revealed .entry)))) r (now (log .exit)) (now (revealed .exit)) ⌝ }
+    ensures { λ r. ⌜ Reaches (settingIn f) (now (log .entry)) (now (revealed .entry)) (Run.stopOf (f .opening .present) (now (s .entry)) (length (now (log .entry))) (length (now (revealed .entry)))) r (now (log .exit)) (now (revealed .exit)) ⌝ }
 {
     let supply = spent::supply(f, log.len(), revealed.len());
     let mut table = Table::new();
@@ -75,10 +75,10 @@ fn refusal(read: Read) -> u32
     }
 }
 
-// The run of a sheet that 1 to 8 do not refuse: 9 to 11 are tried on its script, which ends where the input rows start.
+// The run of a sheet that 1 to 8 and 12 do not refuse: 9 to 11 are tried on its script, which ends where the input rows start.
 fn run_sheet(f: Frame, sheet: &[u8], log: &mut [u32], revealed: &mut [u32]) -> Answer
     requires { ⌜ Unrefused (now sheet) f ⌝ }
-    ensures { λ r. ⌜ outcomeOf r (now (log .exit)) (now (revealed .exit)) ≡ Run.run (now (sheet .entry)) (now (log .entry)) (now (revealed .entry)) ⌝ }
+    ensures { λ r. ⌜ outcomeOf r (now (log .exit)) (now (revealed .exit)) ≡ Run.run (f .opening .present) (now (sheet .entry)) (now (log .entry)) (now (revealed .entry)) ⌝ }
 {
     let end = f.input;
     let from = end - f.script;
@@ -90,14 +90,21 @@ fn run_sheet(f: Frame, sheet: &[u8], log: &mut [u32], revealed: &mut [u32]) -> A
     run_script(f, sheet, script, log, revealed)
 }
 
-// Runs a sheet. Opened shares go to the log, the paper's record, and revealed values to the revealed list, each from its start; past what was
-// written they are unchanged.
-pub fn run(sheet: &[u8], log: &mut [u32], revealed: &mut [u32]) -> Answer
-    ensures { λ r. ⌜ outcomeOf r (now (log .exit)) (now (revealed .exit)) ≡ Run.run (now (sheet .entry)) (now (log .entry)) (now (revealed .entry)) ⌝ }
+// The run of a sheet with a number for the byte that says who is present.
+fn run_with(sheet: &[u8], present: u32, log: &mut [u32], revealed: &mut [u32]) -> Answer
+    ensures { λ r. ⌜ outcomeOf r (now (log .exit)) (now (revealed .exit)) ≡ Run.run present (now (sheet .entry)) (now (log .entry)) (now (revealed .entry)) ⌝ }
 {
-    let read = sheet::read_sheet(sheet);
+    let read = sheet::read_sheet(sheet, present);
     let Read::Sheet(f) = read else {
         return refused(refusal(read), 0);
     };
     run_sheet(f, sheet, log, revealed)
+}
+
+// Runs a sheet, with the byte whose bit j − 1 says that party j is present. Opened shares go to the log, the paper's record, and revealed values to
+// the revealed list, each from its start; past what was written they are unchanged.
+pub fn run(sheet: &[u8], present: u8, log: &mut [u32], revealed: &mut [u32]) -> Answer
+    ensures { λ r. ⌜ outcomeOf r (now (log .exit)) (now (revealed .exit)) ≡ Run.run present (now (sheet .entry)) (now (log .entry)) (now (revealed .entry)) ⌝ }
+{
+    run_with(sheet, words::wide(present), log, revealed)
 }

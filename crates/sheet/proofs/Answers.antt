@@ -17,7 +17,7 @@ use Rattle.model.proofs.Lengths.{header-numbered, header-read}
 use Rattle.model.proofs.Trying.{numbered, holding, all-hold, front-passes, passes, fails, nothing-left, first-decide, others-decide, told}
 use Rattle.model.specs.Deal.{Setting, Row, Deal}
 use Rattle.sharing.specs.Settings.{Opens, Fitting}
-use Rattle.sheet.specs.Framed.{settingFrom, settingIn, inputsOf, dealOf, Headed, Presented, RunHeaded, Whole, Framed}
+use Rattle.sheet.specs.Framed.{settingFrom, settingIn, inputsOf, dealOf, Headed, Presented, RunHeaded, Whole, RunFramed}
 use Rattle.sheet.specs.Reading.{runTests, Reads}
 use Rattle.sheet.proofs.Headers.{end-is, rows-are, setting-is, inputs-are, deal-is, modulus-in, bits-in}
 use Rattle.sheet.specs.declared.frame.Frame.{Frame}
@@ -130,8 +130,14 @@ module _ (s : List ℕ) where
   unfolding fieldTests settingTests headerTests limitTests numbered
   header-tests-numbered = tt
 
-  pub long-read : 0 ≡ firstFailed header → headerSize (headerOf s) ≤ length s
-  long-read e = header-long s refl (front-passes (headerTests s) _ (header-numbered s) (sym e))
+  module _ {r : Read} (A : Reads header (Headed (headerOf s)) r) {f : Frame} (e : r ≡ Sheet f) where
+    pub header-frame : Headed (headerOf s) f
+    header-frame = frame-read header (Headed (headerOf s)) A e
+
+    pub long-read : headerSize (headerOf s) ≤ length s
+    long-read =
+        let B : Reads header (Headed (headerOf s)) (Sheet f) = rw e at A in
+        header-long s refl (front-passes (headerTests s) _ (header-numbered s) (sym (B .0)))
 
 -- The answers of a whole sheet with these parties present, by those of its header and of its body.
 module _ (present : ℕ) (s : List ℕ) where
@@ -151,8 +157,8 @@ module _ (present : ℕ) (s : List ℕ) where
       ∙ ap (λ (x : List (Bool × ℕ)). headerTests s ++ x) (append-assoc (presentTests h present) (limitTests h) rest))
 
   module _ {r : Read} (A : Reads (runTests present s) (RunHeaded present (headerOf s)) r) where
-    pub header-refuses : {k : ℕ} → r ≡ Refused k → Reads (sheetTests present s) (Framed present s) r
-    header-refuses e = rw all-tests (refuses-first (runTests present s) (RunHeaded present (headerOf s)) A _ (Framed present s) e)
+    pub header-refuses : {k : ℕ} → r ≡ Refused k → Reads (sheetTests present s) (RunFramed present s) r
+    header-refuses e = rw all-tests (refuses-first (runTests present s) (RunHeaded present (headerOf s)) A _ (RunFramed present s) e)
 
     module _ {f : Frame} (e : r ≡ Sheet f) where
       H : RunHeaded present (headerOf s) f
@@ -170,12 +176,13 @@ module _ (present : ℕ) (s : List ℕ) where
         pub nothing-refuses : n ≡ 0 → 0 ≡ firstFailed (sheetTests present s)
         nothing-refuses z = sym z ∙ body-decides
 
-        pub whole-read : n ≡ 0 → Framed present s f
+        pub whole-read : n ≡ 0 → RunFramed present s f
         unfolding lengthTests rowTests numbered holding
         whole-read z =
             let t = all-hold 4 (body (settingIn f) (inputsOf s f) (dealOf s f)) tt (sym k ∙ z) in
-            record {
+            let P = H .1 in
+            (record {
               headed = H .0;
-              presented = H .1;
+              presented = record { present-is = refl; permitted = rw (P .present-is) (P .permitted); opens = P .opens };
               whole = whole s (H .0) refl (is-true _ (and-left (eqb (length s) (impliedLength (headerOf s))) true t));
-            }
+            }, P .present-is)

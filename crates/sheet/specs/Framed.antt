@@ -63,8 +63,12 @@ RunHeaded present h f = Headed h f × Presented present f
 abbrev pub Whole : List ℕ → Frame → Type 0
 Whole s f = length s ≡ f .triple + 4 * f .n * 3 * f .triples
 
--- The frame f of a sheet s that 1 to 4 and 12 do not refuse.
-pub record Framed (present : ℕ) (s : List ℕ) (f : Frame) : Type 0 where
+-- The frame f of a sheet s that 1 to 4 and 12 do not refuse, with the byte that the frame has.
+pub record Framed (s : List ℕ) (f : Frame) : Type 0 where
   pub headed : Headed (headerOf s) f
-  pub presented : Presented present f
+  pub presented : Presented (f .opening .present) f
   pub whole : Whole s f
+
+-- and with this byte
+abbrev pub RunFramed : ℕ → List ℕ → Frame → Type 0
+RunFramed present s f = Framed s f × (f .opening .present ≡ present)

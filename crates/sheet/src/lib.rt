@@ -11,7 +11,7 @@ ghost use lib.ListN.{length};
 ghost use Rattle.model.specs.Refusing.{firstFailed};
 ghost use Rattle.model.specs.Sheet as Sheet;
 ghost use Rattle.sharing.specs.Settings.{Opens};
-ghost use Rattle.sheet.specs.Framed.{settingIn, inputsOf, dealOf, Headed, Whole, Framed};
+ghost use Rattle.sheet.specs.Framed.{settingIn, inputsOf, dealOf, Headed, Whole, RunFramed};
 ghost use Rattle.sheet.specs.Reading.{Reads};
 use crate::frame::Frame;
 use crate::header::Read;
@@ -19,7 +19,7 @@ use sharing::setting::Setting;
 
 // The frame of a sheet for a run with these parties present, or the number of its refusal, 1 to 8 or 12.
 pub fn read_sheet(s: &[u8], present: u32) -> Read
-    ensures { λ r. ⌜ Reads (Sheet.sheetTests present (now (s .entry))) (Framed present (now (s .entry))) r ⌝ }
+    ensures { λ r. ⌜ Reads (Sheet.sheetTests present (now (s .entry))) (RunFramed present (now (s .entry))) r ⌝ }
 {
     let read = header::read_run_header(s, present);
     let Read::Sheet(f) = read else {

@@ -2,7 +2,7 @@
 -- Assumes nothing.
 use borrow.Author.Needs.{needs}
 use Rattle.model.specs.Sheet.{headerSize}
-use Rattle.sheet.proofs.Answers.{frame-read, long-read}
+use Rattle.sheet.proofs.Answers.{header-frame, long-read}
 use Rattle.table.proofs.run_lines.Statement.{statement}
 use Rattle.table.proofs.run_lines.Tie as tie
 
@@ -15,7 +15,7 @@ shared-slice-read-wide c =
 opened-requires : tie.Need-opened-requires
 opened-requires c κs =
     let found = c .before .before .before .before in
-    let H = frame-read _ (found .before .before .read-header .ensures) (found .f .given .1) in
+    let H = header-frame _ (found .before .before .read-header .ensures) (found .f .given .1) in
     rw (H .n-is) (found .before .before .before .before .before .before .pre .0)
 
 pub run-lines-spec : {M : Type 1} → statement M

@@ -10,4 +10,4 @@ first-row-spec =
     (tie.spec
     (λ c κs. search needs)
     (λ c. rw (c .before .if1 .taken) (c .constant-row .ensures))
-    (λ c. search needs))
+    (λ c. rw (c .if1 .left)))

@@ -4,6 +4,9 @@ use borrow.Author.Needs.{needs}
 use Rattle.steps.proofs.cut.after.Statement.{statement}
 use Rattle.steps.proofs.cut.after.Tie as tie
 
+returns : tie.Need-returns
+returns c = rw (c .enum-told .given .1)
+
 returns-2 : tie.Need-returns-2
 returns-2 c = let e = c .before .enum-told2 .given .1 in let l = rw e at (c .before .before .before .pre .1) in rw e (cc)
 
@@ -20,5 +23,5 @@ pub after-spec : {M : Type 1} → statement M
 after-spec =
     tie.close
     (tie.spec (λ c. search needs) (λ c. search needs) (λ c κs. search needs) (λ c. search needs) (λ c κs. search needs) (λ c κs. search needs)
-    (λ c. search needs) (λ c κs. search needs) (λ c κs. search needs) (λ c. search needs) (λ c κs. search needs) (λ c. search needs) returns-2 returns-3
+    (λ c. search needs) (λ c κs. search needs) (λ c κs. search needs) (λ c. search needs) (λ c κs. search needs) returns returns-2 returns-3
     returns-4 returns-5)

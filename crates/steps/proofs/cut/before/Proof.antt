@@ -17,4 +17,4 @@ pub before-spec : {M : Type 1} → statement M
 before-spec =
     tie.close
     (tie.spec (λ c. search needs) (λ c. search needs) (λ c. search needs) (λ c. search needs) (λ c κs. search needs) (λ c κs. search needs) (λ c. search needs)
-    sum-row-requires (λ c. search needs) (λ c. search needs) (λ c. search needs) over-returns blocks-returns)
+    sum-row-requires (λ c. rw (c .enum-told .given .1)) (λ c. rw (c .enum-told2 .given .1)) (λ c. rw (c .enum-told3 .given .1)) over-returns blocks-returns)
