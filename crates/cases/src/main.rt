@@ -1,5 +1,5 @@
 // Runs the cases of standard input, and prints all that each run leaves. A case is, as reference/src/run_case.rs has it, three words of 4 bytes,
-// little-endian, the lengths of the sheet, the record and the revealed list; then the sheet.
+// little-endian, the lengths of the sheet, the record and the revealed list; then the byte that says who is present, and the sheet.
 mod outcome;
 
 ghost use mathlib.Core.Path.{_≡_};
@@ -30,13 +30,13 @@ fn run_cases(s: &[u8]) {
 fn run_case(s: &[u8]) -> usize
     ensures { λ r. ⌜ r ≤ length (now (s .entry)) ⌝ }
 {
-    if s.len() < 12 {
+    if s.len() < 13 {
         return 0;
     }
     let sheet = length_at(s, 0);
     let log = length_at(s, 4);
     let revealed = length_at(s, 8);
-    if s.len() - 12 < sheet {
+    if s.len() - 13 < sheet {
         return 0;
     }
     if 12000 < log {
@@ -45,8 +45,8 @@ fn run_case(s: &[u8]) -> usize
     if 600 < revealed {
         return 0;
     }
-    run_sheet(&s[12..12 + sheet], log, revealed);
-    12 + sheet
+    run_sheet(&s[13..13 + sheet], s[12], log, revealed);
+    13 + sheet
 }
 
 fn length_at(s: &[u8], i: usize) -> usize
@@ -57,15 +57,15 @@ fn length_at(s: &[u8], i: usize) -> usize
 }
 
 // Lends a record of n numbers and a revealed list of m, each 7777777.
-fn run_sheet(s: &[u8], n: usize, m: usize)
+fn run_sheet(s: &[u8], present: u8, n: usize, m: usize)
     requires { ⌜ (n ≤ 12000) × (m ≤ 600) ⌝ }
 {
     let mut log = [7777777u32; 12000];
     let mut revealed = [7777777u32; 600];
-    run_lent(s, &mut log[..n], &mut revealed[..m]);
+    run_lent(s, present, &mut log[..n], &mut revealed[..m]);
 }
 
-fn run_lent(s: &[u8], log: &mut [u32], revealed: &mut [u32]) {
-    let answer = run::run(s, log, revealed);
+fn run_lent(s: &[u8], present: u8, log: &mut [u32], revealed: &mut [u32]) {
+    let answer = run::run(s, present, log, revealed);
     outcome(answer, log, revealed);
 }

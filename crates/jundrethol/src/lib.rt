@@ -10,19 +10,21 @@ ghost use Rattle.model.specs.Columns.{columnForm, sheetForm, turnNumber, output
 ghost use Rattle.jundrethol.specs.Lent.{Handed, asImported};
 use machine::run;
 
-// Runs a sheet. Opened shares go to the log, the header's record. Registers, marks and counts go to lists of any length.
+// Runs a sheet, with the byte that says who is present. Opened shares go to the log, the header's record. Registers, marks and counts go to lists of any
+// length.
 #[no_mangle]
 pub extern "C" fn jundrethol_run(
     sheet: &[u8],
+    present: u8,
     log: &mut [u32],
     revealed: &mut [u32],
     registers: &mut [u32],
     marks: &mut [u8],
     counts: &mut [u64],
 ) -> u32
-    ensures { λ r. ⌜ Handed (Run.run (now (sheet .entry)) (now (log .entry)) (now (revealed .entry))) r (now (log .exit)) (now (revealed .exit)) (now (registers .entry)) (now (registers .exit)) (now (marks .entry)) (now (marks .exit)) (now (counts .entry)) (now (counts .exit)) ⌝ }
+    ensures { λ r. ⌜ Handed (Run.run present (now (sheet .entry)) (now (log .entry)) (now (revealed .entry))) r (now (log .exit)) (now (revealed .exit)) (now (registers .entry)) (now (registers .exit)) (now (marks .entry)) (now (marks .exit)) (now (counts .entry)) (now (counts .exit)) ⌝ }
 {
-    let answer = run::run(sheet, log, revealed);
+    let answer = run::run(sheet, present, log, revealed);
     lent::hand(answer, registers, marks, counts);
     answer.number
 }

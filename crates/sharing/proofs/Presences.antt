@@ -15,9 +15,11 @@ use lib.Pow.{pow-pos}
 use lib.Seq.{length-take-le, take-all, take-nil, take-append-le, take-suc-set, take-suc, drop-cons, getD-take}
 use Rattle.algebra.specs.Ring.{sub, mul}
 use Rattle.algebra.specs.Lists.{Below, from}
+use Rattle.algebra.proofs.Ring.{ring, mod-ring, reduced}
 use Rattle.algebra.proofs.Tests.{is-false}
 use Rattle.algebra.proofs.Lists.{below-nil, below-head, below-tail, below-cons}
-use Rattle.model.specs.Fields.{inverse}
+use Rattle.model.specs.Fields.{Modulus, InUse, modulus, inverse}
+use Rattle.model.proofs.Fields.{fields}
 use Rattle.model.specs.Presence.{bit, isPresent, presentIn, absentIn, openers, permittedSet, PermittedSet}
 use Rattle.model.specs.Sharing.{reciprocal, ratio, weight}
 use Rattle.sharing.specs.Settings.{LowestOf, Further, WeightsOf, partiesOf, weightsOf, Opens}
@@ -178,9 +180,14 @@ pub weights-more : (p : ℕ) (xs : List ℕ) (ws : List ℕ) (i : ℕ) {w : ℕ}
 weights-more p xs ws i {w} h l e k =
     take-suc-set ws i w l ∙ rw (k, take-suc xs i 0 h, map-append, e)
 
+-- the modulus of a field
+pub modulus-of : (f : ℕ) {p : ℕ} → InUse f → p ≡ modulus f → Modulus p
+modulus-of f h e = rw e (fields f h .modulus-is)
+
 -- a ratio, of a party and itself and of another
-pub ratio-same : (p x z : ℕ) → 1 < p → z ≡ x → (1 ≡ ratio p x z) × (1 < p)
-ratio-same p x z h e = (unfold ratio in rw (eq-eqb z x e), h)
+pub own-ratio : (p x z : ℕ) {w : ℕ} → w < p → z ≡ x → (w ≡ mul p (ratio p x z) w) × (w < p)
+own-ratio p x z {w} h e =
+    (unfold ratio in rw (eq-eqb z x e) (sym (reduced h (let k : 0 < p = omega arith in simp mod-ring (ring k _ _ _ _ (omega arith))))), h)
 
 pub ratio-other : (p x z : ℕ) {a b d r : ℕ} → (z ≡ x → ⊥) → a ≡ inverse p (z - x) → b ≡ inverse p (x - z) → d ≡ sub p a b → r ≡ mul p z d → r ≡ ratio p x z
 ratio-other p x z n ea eb ed er = unfold ratio reciprocal in rw (ne-eqb z x n, ← ea, ← eb, ← ed) er

@@ -18,7 +18,8 @@ fn term(point: Point, row: Row) -> u64
     requires { ⌜ (1 ≤ point .party) × (point .party ≤ 7) ⌝ }
     ensures { λ r. ⌜ r ≡ point .weight * Sharing.at 0 (row .shares) (point .party) ⌝ }
 {
-    secret::wide(point.weight) * secret::wide(row.shares[point.party - 1])
+    let party = point.party as usize;
+    secret::wide(point.weight) * secret::wide(row.shares[party - 1])
 }
 
 // The sum before reducing, of the shares of the lowest t + 1 present parties: each times its weight below p, added. Shares below p are asked for, since

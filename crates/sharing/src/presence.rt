@@ -2,7 +2,9 @@
 ghost use mathlib.Core.Path.{_≡_};
 ghost use Prim.Native.Nat.{_+_, _-_, _/_, _≤_, _<_};
 ghost use lib.ListN.{set, take};
+ghost use mathlib.Core.Logic.{_≢_};
 ghost use Rattle.algebra.specs.Lists as Lists;
+ghost use Rattle.algebra.specs.Ring.{mul};
 ghost use Rattle.model.specs.Fields as Fields;
 ghost use Rattle.model.specs.Presence as Presence;
 ghost use Rattle.model.specs.Sharing as Sharing;
@@ -12,7 +14,7 @@ use field::table;
 
 // A party and its weight.
 pub struct Point {
-    pub party: usize,
+    pub party: u32,
     pub weight: u32,
 }
 
@@ -120,18 +122,26 @@ fn above(a: usize, b: usize) -> usize
     if b < a { a - b } else { 0 }
 }
 
-// z/(z − x), and 1 where z is x: what party z gives to the weight of party x.
-fn ratio(field: usize, x: usize, z: usize) -> u32
-    requires { ⌜ Fields.InUse field × (x < 8) × (z < 8) ⌝ }
-    ensures { λ r. ⌜ (r ≡ Sharing.ratio (Fields.modulus field) x z) × (r < Fields.modulus field) ⌝ }
+// z/(z − x) for another party z.
+fn ratio(field: usize, p: u32, x: usize, z: usize) -> u32
+    requires { ⌜ Fields.InUse field × (p ≡ Fields.modulus field) × (x < 8) × (z < 8) × (z ≢ x) ⌝ }
+    ensures { λ r. ⌜ r ≡ Sharing.ratio p x z ⌝ }
 {
-    if z == x {
-        return 1;
-    }
-    let p = table::modulus(field);
     let up = table::inverse(field, above(z, x));
     let down = table::inverse(field, above(x, z));
     arithmetic::mul(p, z as u32, arithmetic::sub(p, up, down))
+}
+
+// The weight of party x with one party more among the others: a party's own ratio is 1.
+fn weight_with(field: usize, p: u32, x: usize, z: usize, weight: u32) -> u32
+    requires { ⌜ Fields.InUse field × (p ≡ Fields.modulus field) × (x < 8) × (z < 8) × (weight < p) ⌝ }
+    ensures { λ r. ⌜ (r ≡ mul p (Sharing.ratio p x z) weight) × (r < p) ⌝ }
+{
+    if z == x {
+        weight
+    } else {
+        arithmetic::mul(p, ratio(field, p, x, z), weight)
+    }
 }
 
 // The Lagrange weight at 0 of party x among the first e of some parties.
@@ -144,7 +154,7 @@ fn weight_among(field: usize, parties: [usize; 4], e: usize, x: usize) -> u32
     let mut i = e;
     while i > 0 {
         i -= 1;
-        weight = arithmetic::mul(p, ratio(field, x, parties[i]), weight);
+        weight = weight_with(field, p, x, parties[i], weight);
     }
     weight
 }
@@ -172,19 +182,19 @@ pub fn opening_of(field: usize, n: usize, t: usize, present: u32) -> Opening
     let parties = found.parties;
     let weights = weights_among(field, parties, e);
     let first = Point {
-        party: parties[0],
+        party: parties[0] as u32,
         weight: weights[0],
     };
     let second = Point {
-        party: parties[1],
+        party: parties[1] as u32,
         weight: weights[1],
     };
     let third = Point {
-        party: parties[2],
+        party: parties[2] as u32,
         weight: weights[2],
     };
     let fourth = Point {
-        party: parties[3],
+        party: parties[3] as u32,
         weight: weights[3],
     };
     Opening {
