@@ -11,10 +11,11 @@ use borrow.Author.Tests.{le-leb, ne-eqb}
 use lib.Dec.{eqb}
 use lib.ListN.{length, take, length-take}
 use lib.Seq.{getD-take}
+use Rattle.model.specs.Presence.{permittedSet}
 use Rattle.model.specs.Bytes.{number}
 use Rattle.model.specs.Fields.{bits, inUse, parties, fieldTests, settingTests}
 use Rattle.model.specs.Refusing.{firstFailed}
-use Rattle.model.specs.Sheet.{Header, headerOf, headerSize, maskBits, limits, impliedLength, headerTests, limitTests, lengthTests, sheetTests, sheetNumber, Permitted, settingOf}
+use Rattle.model.specs.Sheet.{Header, headerOf, inputIn, dealIn, headerSize, maskBits, limits, impliedLength, headerTests, presentTests, limitTests, lengthTests, rowTests, sheetTests, sheetNumber, Permitted, settingWith}
 use Rattle.model.specs.Run.{Outcome, refusedInput, outcome, stopOf, run}
 use Rattle.model.specs.Columns.{shapeTests, turnNumber}
 use Rattle.model.specs.Exactness.{Accepted}
@@ -22,7 +23,7 @@ use Rattle.model.proofs.Trying.{upTo, number-most, given-refused, passes, fails
 use Rattle.model.proofs.Lengths.{length-most}
 use Rattle.model.proofs.Acceptance.{sound}
 use Rattle.model.proofs.ColumnForms.{every-form}
-use Rattle.figures.specs.Room.{largestSheet, largestHeader, longNumber, LargestSheet}
+use Rattle.figures.specs.Room.{largestSheet, largestHeader, longNumber, longTurned, LargestSheet}
 
 most : (h : Header) → Permitted h → impliedLength h ≤ largestSheet
 most h P = length-most h P
@@ -35,8 +36,8 @@ reached : impliedLength largestHeader ≡ largestSheet
 unfolding headerSize maskBits impliedLength bits
 reached = refl
 
-accepted : (s : List ℕ) → Accepted s → length s ≤ largestSheet
-accepted s a = let Q = sound s (a .number) in rw (Q .size) (most (headerOf s) (Q .permitted))
+accepted : (present : ℕ) (s : List ℕ) → Accepted present s → length s ≤ largestSheet
+accepted present s a = let Q = sound present s (a .number) in rw (Q .size) (most (headerOf s) (Q .permitted))
 
 -- where 2 and 3 do not refuse, the limits or the length do
 module _ (s : List ℕ) (long : largestSheet < length s) where
@@ -57,24 +58,42 @@ module _ (s : List ℕ) (long : largestSheet < length s) where
           let P : Permitted h = record { field = setting-field (h .field) (h .n) (h .t) (sym z) refl; people = setting-people (h .field) (h .n) (h .t) (sym z) refl; counts = rw e tt } in
           sym (passes 4 _ refl (fails 4 rest (length-fails P)))
 
-  long-sheet : sheetNumber s ≡ longNumber h
+  -- 12, and then 4
+  after-set : (present : ℕ) → firstFailed (settingTests (h .field) (h .n) (h .t)) ≡ 0
+      → firstFailed (presentTests h present ++ (limitTests h ++ (lengthTests h s ++ rowTests (settingWith present h) (inputIn h s) (dealIn h s))))
+      ≡ firstFailed ((permittedSet (h .n) (h .t) present, 12) ∷ (false, 4) ∷ [])
+  unfolding presentTests
+  after-set present z = go (permittedSet (h .n) (h .t) present)
+    where
+      go : (b : Bool) → firstFailed ((b, 12) ∷ (limitTests h ++ (lengthTests h s ++ rowTests (settingWith present h) (inputIn h s) (dealIn h s))))
+          ≡ firstFailed ((b, 12) ∷ (false, 4) ∷ [])
+      go true = sym (passes 12 _ refl refl) ∙ limits-or-length _ z ∙ fails 4 [] refl ∙ passes 12 _ refl refl
+      go false = sym (fails 12 _ refl) ∙ fails 12 _ refl
+
+  long-sheet : (present : ℕ) → sheetNumber present s ≡ longNumber present h
   unfolding headerSize sheetTests headerTests fieldTests settingTests
-  long-sheet =
+  long-sheet present =
       sym (passes 1 _ (le-leb 11 (length s) (omega arith)) refl)
-      ∙ after (settingTests (h .field) (h .n) (h .t)) _ _ (setting-numbered (h .field) (h .n) (h .t)) (λ z. limits-or-length _ z ∙ fails 4 [] refl)
+      ∙ after (settingTests (h .field) (h .n) (h .t)) _ _ (setting-numbered (h .field) (h .n) (h .t)) (λ z. after-set present z)
 
-long-number : (h : Header) → longNumber h ≢ 0
+  long-shape : firstFailed (shapeTests s) ≡ longTurned h
+  unfolding headerSize shapeTests headerTests fieldTests settingTests lengthTests
+  long-shape =
+      sym (passes 1 _ (le-leb 11 (length s) (omega arith)) refl)
+      ∙ after (settingTests (h .field) (h .n) (h .t)) _ _ (setting-numbered (h .field) (h .n) (h .t)) (λ z. limits-or-length [] z ∙ fails 4 [] refl)
+
+long-number : (present : ℕ) (h : Header) → longNumber present h ≢ 0
 unfolding fieldTests settingTests numbered holding
-long-number h e = all-hold 4 (settingTests (h .field) (h .n) (h .t) ++ ((false, 4) ∷ [])) tt e
+long-number present h e = all-hold 4 (settingTests (h .field) (h .n) (h .t) ++ ((permittedSet (h .n) (h .t) present, 12) ∷ (false, 4) ∷ [])) tt e
 
-long-stop : (s : List ℕ) (log shown : ℕ) → largestSheet < length s → stopOf s log shown ≡ refusedInput (longNumber (headerOf s)) 0
+long-stop : (present : ℕ) (s : List ℕ) (log shown : ℕ) → largestSheet < length s → stopOf present s log shown ≡ refusedInput (longNumber present (headerOf s)) 0
 unfolding stopOf
-long-stop s log shown l = rw (long-sheet s l) (given-refused (longNumber (headerOf s)) _ _ (long-number (headerOf s)))
+long-stop present s log shown l = rw (long-sheet s l present) (given-refused (longNumber present (headerOf s)) _ _ (long-number present (headerOf s)))
 
-long-run : (s log revealed : List ℕ) → largestSheet < length s
-    → run s log revealed ≡ outcome (settingOf (headerOf s)) log revealed (refusedInput (longNumber (headerOf s)) 0)
+long-run : (present : ℕ) (s log revealed : List ℕ) → largestSheet < length s
+    → run present s log revealed ≡ outcome (settingWith present (headerOf s)) log revealed (refusedInput (longNumber present (headerOf s)) 0)
 unfolding run
-long-run s log revealed l = ap (outcome (settingOf (headerOf s)) log revealed) (long-stop s (length log) (length revealed) l)
+long-run present s log revealed l = ap (outcome (settingWith present (headerOf s)) log revealed) (long-stop present s (length log) (length revealed) l)
 
 -- the header stands in the first bytes
 module _ (m : ℕ) (s : List ℕ) where
@@ -96,31 +115,29 @@ module _ (m : ℕ) (s : List ℕ) where
         script = number-cut 2 9 (omega arith) i;
       }
 
-cut : (s log revealed : List ℕ) → largestSheet < length s → run (take (suc largestSheet) s) log revealed ≡ run s log revealed
-cut s log revealed l =
+cut : (present : ℕ) (s log revealed : List ℕ) → largestSheet < length s → run present (take (suc largestSheet) s) log revealed ≡ run present s log revealed
+cut present s log revealed l =
     let m : largestSheet < length (take (suc largestSheet) s) = omega (arith, length-take (suc largestSheet) s, min-eq-left l) in
-    long-run (take (suc largestSheet) s) log revealed m
-    ∙ ap (λ (h : Header). outcome (settingOf h) log revealed (refusedInput (longNumber h) 0)) (header-cut (suc largestSheet) s (unfold headerSize in omega arith))
-    ∙ sym (long-run s log revealed l)
+    long-run present (take (suc largestSheet) s) log revealed m
+    ∙ ap (λ (h : Header). outcome (settingWith present h) log revealed (refusedInput (longNumber present h) 0)) (header-cut (suc largestSheet) s (unfold headerSize in omega arith))
+    ∙ sym (long-run present s log revealed l)
 
-longer : (s log revealed : List ℕ) → largestSheet < length s
-    → (run s log revealed .number ≡ longNumber (headerOf s)) × (run s log revealed .place ≡ 0)
+longer : (present : ℕ) (s log revealed : List ℕ) → largestSheet < length s
+    → (run present s log revealed .number ≡ longNumber present (headerOf s)) × (run present s log revealed .place ≡ 0)
 unfolding outcome
-longer s log revealed l =
-    let e = long-run s log revealed l in
+longer present s log revealed l =
+    let e = long-run present s log revealed l in
     (ap (λ (x : Outcome). x .number) e, ap (λ (x : Outcome). x .place) e)
 
 -- the column form answers 1 to 4 as a run does
-long-most : (h : Header) → longNumber h ≤ 4
-unfolding upTo
-long-most h = number-most 4 ((inUse (h .field), 2) ∷ (parties (h .n) (h .t), 3) ∷ (false, 4) ∷ []) tt
+long-turned : (h : Header) → longTurned h ≢ 0
+unfolding fieldTests settingTests numbered holding
+long-turned h e = all-hold 4 (settingTests (h .field) (h .n) (h .t) ++ ((false, 4) ∷ [])) tt e
 
-turned : (s out : List ℕ) → largestSheet < length s → turnNumber s out ≡ longNumber (headerOf s)
+turned : (s out : List ℕ) → largestSheet < length s → turnNumber s out ≡ longTurned (headerOf s)
 turned s out l =
-    let N = every-form .numbers s out in
-    let e = long-sheet s l in
-    let q : firstFailed (shapeTests s) ≡ longNumber (headerOf s) = N .as-sheet (rw e (long-most (headerOf s))) ∙ e in
-    N .first (λ z. long-number (headerOf s) (sym q ∙ z)) ∙ q
+    let q = long-shape s l in
+    every-form .numbers s out .first (λ z. long-turned (headerOf s) (sym q ∙ z)) ∙ q
 
 pub largest-sheet : LargestSheet
 largest-sheet = record { most = most; permitted = permitted; reached = reached; accepted = accepted; longer = longer; cut = cut; turned = turned }

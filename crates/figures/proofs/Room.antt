@@ -15,9 +15,9 @@ use Rattle.model.specs.Steps.{Setting, Row, Deal}
 use Rattle.model.specs.Script.{Command, Line, Script, accepted, refused, scriptFrom, scriptOf}
 use Rattle.model.specs.Refusing.{firstFailed}
 use Rattle.model.specs.Costs.{cost}
-use Rattle.model.specs.Sheet.{Header, headerOf, headerSize, settingOf, scriptIn, inputIn, dealIn}
+use Rattle.model.specs.Sheet.{Header, headerOf, headerSize, settingWith, scriptIn, inputIn, dealIn}
 use Rattle.model.specs.Run.{Spent, State, Supply, allSet, check, pay, finish, runLines, nothingSpent, start, supplyOf, runScript, stopOf, outcome, run}
-use Rattle.model.specs.Exactness.{Accepted, Passes, begins, goes}
+use Rattle.model.specs.Exactness.{Accepted}
 use Rattle.model.specs.Refusals.{isRun, Numbered}
 use Rattle.model.proofs.StepLaws.{run-end, run-line}
 use Rattle.model.proofs.Checks.{check-passed}
@@ -25,7 +25,7 @@ use Rattle.model.proofs.Held.{all-same}
 use Rattle.model.proofs.Acceptance.{sound}
 use Rattle.model.proofs.Balance.{Balanced, balanced-more}
 use Rattle.model.proofs.Lengths.{Fitting, fitting}
-use Rattle.model.proofs.Exactness.{exactness}
+use Rattle.model.proofs.Exactness.{Within, within, exactness}
 use Rattle.model.proofs.Outputs.{Shows, hides, shows, agrees}
 use Rattle.model.proofs.Readings.{size-some, takes-least, every-script}
 use Rattle.model.proofs.Refusals.{either, numbers, nothing-run}
@@ -115,38 +115,39 @@ module _ (h : Header) (fits : Fitting h) (people : h .n ≤ 7) (log shown : ℕ)
         (either Other (check u (cost S (x .command)) (s .spent)) _ _
         (λ e. lines xs (finish S input (x .command) s) (finished (x .command) s k e)) (checked S (x .command) k))
 
-  script : (s : List ℕ) (xs : List Line) (end : ℕ) → Short (scriptIn h s) 0 (accepted xs end)
-      → Other (runLines (settingOf h) u (inputIn h s) end xs (start (dealIn h s)) .number)
+  script : (present : ℕ) (s : List ℕ) (xs : List Line) (end : ℕ) → Short (scriptIn h s) 0 (accepted xs end)
+      → Other (runLines (settingWith present h) u (inputIn h s) end xs (start (dealIn h s)) .number)
   unfolding scriptIn
-  script s xs end k =
-      lines (settingOf h) (inputIn h s) end xs (start (dealIn h s))
+  script present s xs end k =
+      lines (settingWith present h) (inputIn h s) end xs (start (dealIn h s))
       (before-first (dealIn h s) (length xs) (omega (arith, fits, rw length-take at k, min-le-left (h .script) (length (drop (headerSize h) s)))))
 
-accepted-other : (s : List ℕ) (log shown : ℕ) → recordLength ≤ log → revealedLength ≤ shown → Accepted s → Other (stopOf s log shown .number)
+accepted-other : (present : ℕ) (s : List ℕ) (log shown : ℕ) → recordLength ≤ log → revealedLength ≤ shown → Accepted present s
+    → Other (stopOf present s log shown .number)
 unfolding stopOf runScript scriptOf
-accepted-other s log shown log-long shown-long a =
+accepted-other present s log shown log-long shown-long a =
     let h = headerOf s in
-    let Q = sound s (a .number) in
+    let Q = sound present s (a .number) in
     rw (a .number, a .script)
-    (script h (fitting h (Q .permitted)) (Q .permitted .people .most) log shown log-long shown-long s (a .lines) (a .end) (subst (Short (scriptIn h s) 0) (a .script) (short _ _ (scriptIn h s) _ 0)))
+    (script h (fitting h (Q .permitted)) (Q .permitted .people .most) log shown log-long shown-long present s (a .lines) (a .end) (subst (Short (scriptIn h s) 0) (a .script) (short _ _ (scriptIn h s) _ 0)))
 
 -- 25 and 26 are numbers of accepted sheets only
 pub no-run-outgrows : NoRunOutgrows
 unfolding run outcome
-no-run-outgrows s log revealed log-long shown-long =
-    let N = numbers .of-run s log revealed .state .0 in
-    let o = accepted-other s (length log) (length revealed) log-long shown-long in
+no-run-outgrows present s log revealed log-long shown-long =
+    let N = numbers .of-run present s log revealed .state .0 in
+    let o = accepted-other present s (length log) (length revealed) log-long shown-long in
     (λ e. o (N (inr (omega arith))) .0 e, λ e. o (N (inr (omega arith))) .1 e)
 
 pub all-held : AllHeld
 unfolding run outcome
-all-held s log revealed = go (isRun (run s log revealed .number)) refl
+all-held present s log revealed = go (isRun (run present s log revealed .number)) refl
   where
-    N : Numbered s (run s log revealed .number) (run s log revealed .place)
-    N = numbers .of-run s log revealed
+    N : Numbered present s (run present s log revealed .number) (run present s log revealed .place)
+    N = numbers .of-run present s log revealed
 
-    go : (b : Bool) → isRun (run s log revealed .number) ≡ b → Within (supplyOf (headerOf s) (length log) (length revealed)) (record { counts = run s log revealed .counts; marks = [] })
-    go true e = within (exactness s (length log) (length revealed) (N .is-run .0 (subst T (sym e) tt)) .stops .passes)
+    go : (b : Bool) → isRun (run present s log revealed .number) ≡ b → Within (supplyOf (headerOf s) (length log) (length revealed)) (record { counts = run present s log revealed .counts; marks = [] })
+    go true e = within (exactness present s (length log) (length revealed) (N .is-run .0 (subst T (sym e) tt)) .stops .passes)
     go false e =
-        let U = nothing-run s log revealed (λ a. subst T e (N .is-run .1 a)) in
+        let U = nothing-run present s log revealed (λ a. subst T e (N .is-run .1 a)) in
         rw (U .counts) (omega arith)

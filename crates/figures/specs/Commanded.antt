@@ -5,6 +5,7 @@
 use mathlib.Core.List.{List, [], _∷_, _++_}
 use Prim.Native.Nat.{ℕ, zero, suc}
 use lib.ListN.{length, replicate}
+use Rattle.model.specs.Presence.{everyone}
 use Rattle.model.specs.Steps.{Row}
 use Rattle.model.specs.Script.{Command, LOAD, LTZ, OVER, BLOCKS, REVEAL}
 use Rattle.model.specs.Sheet.{shareBytes}
@@ -30,7 +31,7 @@ shownBy x = x .number ∷ x .counts .masks ∷ x .counts .triples ∷ x .counts 
 abbrev pub ranWith : ℕ → List ℕ → List ℕ → List ℕ → List ℕ
 ranWith inputs script input mask =
     shownBy
-    (run (0 ∷ 3 ∷ 1 ∷ inputs ∷ 0 ∷ 1 ∷ 0 ∷ 6 ∷ 0 ∷ length script ∷ 0 ∷ (script ++ shareBytes (input ++ (mask ++ triples 6))))
+    (run (everyone 3) (0 ∷ 3 ∷ 1 ∷ inputs ∷ 0 ∷ 1 ∷ 0 ∷ 6 ∷ 0 ∷ length script ∷ 0 ∷ (script ++ shareBytes (input ++ (mask ++ triples 6))))
     (replicate 42 99) (replicate 1 99))
 
 -- LOAD 0; the bytes of a command that leaves its secret in register 1; REVEAL 1; END

@@ -8,6 +8,7 @@ use lib.IntN.{ℤ, pos, negℤ}
 use lib.ListN.{length, replicate}
 use Rattle.model.specs.Fields.{modulus, bits}
 use Rattle.model.specs.Coding.{code, readBack}
+use Rattle.model.specs.Presence.{everyone}
 use Rattle.model.specs.Sharing.{share}
 use Rattle.model.specs.Steps.{Setting, Row, Deal, Step, value, comparison, remainder, floor, sign, over, blocks}
 use Rattle.model.specs.Parts.{stepC, stepF, stepU}
@@ -16,7 +17,7 @@ use Rattle.model.specs.Costs.{cost}
 
 -- the field of a number with three parties, threshold 1; fields 0 and 2
 abbrev pub inField : ℕ → Setting
-inField f = record { p = modulus f; l = bits f; n = 3; t = 1 }
+inField f = record { p = modulus f; l = bits f; n = 3; t = 1; present = everyone 3 }
 
 abbrev pub small : Setting
 small = inField 0

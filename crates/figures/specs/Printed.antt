@@ -6,6 +6,7 @@ use mathlib.Core.List.{List, [], _∷_}
 use Prim.Native.Nat.{ℕ}
 use lib.ListN.{replicate}
 use Rattle.algebra.specs.Rows.{padded}
+use Rattle.model.specs.Presence.{everyone}
 use Rattle.model.specs.Steps.{Row}
 use Rattle.model.specs.Sheet.{sheetOf}
 use Rattle.model.specs.Run.{Outcome, noRow, run}
@@ -36,4 +37,4 @@ answer =
     }
 
 abbrev pub Printed : Type 0
-Printed = run sheet (replicate 12 99) (replicate 2 99) ≡ answer
+Printed = run (everyone 3) sheet (replicate 12 99) (replicate 2 99) ≡ answer

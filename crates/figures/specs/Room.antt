@@ -7,6 +7,7 @@ use mathlib.Core.List.{List, [], _∷_}
 use Prim.Native.Nat.{ℕ, suc, _*_, _≤_, _<_}
 use lib.ListN.{length, take}
 use Rattle.model.specs.Fields.{inUse, parties}
+use Rattle.model.specs.Presence.{permittedSet}
 use Rattle.model.specs.Refusing.{firstFailed}
 use Rattle.model.specs.Sheet.{Header, headerOf, impliedLength, Permitted}
 use Rattle.model.specs.Run.{run}
@@ -23,14 +24,14 @@ revealedLength = 511
 -- "which no run outgrows, so 25 and 26 come only from the library." This holds for longer buffers too.
 abbrev pub NoRunOutgrows : Type 0
 NoRunOutgrows =
-    (sheet log revealed : List ℕ) → recordLength ≤ length log → revealedLength ≤ length revealed
-    → (run sheet log revealed .number ≢ 25) × (run sheet log revealed .number ≢ 26)
+    (present : ℕ) (sheet log revealed : List ℕ) → recordLength ≤ length log → revealedLength ≤ length revealed
+    → (run present sheet log revealed .number ≢ 25) × (run present sheet log revealed .number ≢ 26)
 
 -- "each opened line the shares of parties 1 to n; each revealed line the field value": the buffers hold them all, whatever their lengths
 abbrev pub AllHeld : Type 0
 AllHeld =
-    (sheet log revealed : List ℕ)
-    → let o = run sheet log revealed in
+    (present : ℕ) (sheet log revealed : List ℕ)
+    → let o = run present sheet log revealed in
     (o .counts .openings * headerOf sheet .n ≤ length log) × (o .counts .revealed ≤ length revealed)
 
 -- "The largest sheet is 59,723 bytes."
@@ -41,9 +42,14 @@ largestSheet = 59723
 abbrev pub largestHeader : Header
 largestHeader = record { field = 3; n = 7; t = 3; inputs = 64; masks = 16; triples = 512; script = 1024 }
 
--- "Input longer than the largest sheet is a wrong length (4, tried after 1 to 3)." 1 does not refuse it, since it has the header's bytes.
-abbrev pub longNumber : Header → ℕ
-longNumber h = firstFailed ((inUse (h .field), 2) ∷ (parties (h .n) (h .t), 3) ∷ (false, 4) ∷ [])
+-- "Input longer than the largest sheet is a wrong length (4, tried after 1 to 3)." 1 does not refuse it, since it has the header's bytes. A run tries 12
+-- before 4.
+abbrev pub longNumber : ℕ → Header → ℕ
+longNumber present h =
+    firstFailed ((inUse (h .field), 2) ∷ (parties (h .n) (h .t), 3) ∷ (permittedSet (h .n) (h .t) present, 12) ∷ (false, 4) ∷ [])
+
+abbrev pub longTurned : Header → ℕ
+longTurned h = firstFailed ((inUse (h .field), 2) ∷ (parties (h .n) (h .t), 3) ∷ (false, 4) ∷ [])
 
 pub record LargestSheet : Type 0 where
   -- a permitted header implies no more bytes, and one implies so many
@@ -51,11 +57,12 @@ pub record LargestSheet : Type 0 where
   pub permitted : Permitted largestHeader
   pub reached : impliedLength largestHeader ≡ largestSheet
   -- so an accepted sheet has no more
-  pub accepted : (sheet : List ℕ) → Accepted sheet → length sheet ≤ largestSheet
-  -- a longer input is refused with 2, 3 or 4
-  pub longer : (sheet log revealed : List ℕ) → largestSheet < length sheet
-      → (run sheet log revealed .number ≡ longNumber (headerOf sheet)) × (run sheet log revealed .place ≡ 0)
+  pub accepted : (present : ℕ) (sheet : List ℕ) → Accepted present sheet → length sheet ≤ largestSheet
+  -- a longer input is refused with 2, 3, 12 or 4
+  pub longer : (present : ℕ) (sheet log revealed : List ℕ) → largestSheet < length sheet
+      → (run present sheet log revealed .number ≡ longNumber present (headerOf sheet)) × (run present sheet log revealed .place ≡ 0)
   -- Of a longer input one byte more than the largest sheet has is enough: the whole outcome is that of its first 59,724 bytes.
-  pub cut : (sheet log revealed : List ℕ) → largestSheet < length sheet → run (take (suc largestSheet) sheet) log revealed ≡ run sheet log revealed
-  -- "1 to 4 as in the paper": the same number where a longer input is to be turned over or back, whatever the output
-  pub turned : (input out : List ℕ) → largestSheet < length input → turnNumber input out ≡ longNumber (headerOf input)
+  pub cut : (present : ℕ) (sheet log revealed : List ℕ) → largestSheet < length sheet
+      → run present (take (suc largestSheet) sheet) log revealed ≡ run present sheet log revealed
+  -- "1 to 4 as in the paper": the same but for 12 where a longer input is to be turned over or back, whatever the output
+  pub turned : (input out : List ℕ) → largestSheet < length input → turnNumber input out ≡ longTurned (headerOf input)

@@ -6,6 +6,7 @@ use mathlib.Core.List.{List, [], _∷_, map}
 use Prim.Native.Nat.{ℕ}
 use lib.ListN.{replicate}
 use Rattle.algebra.specs.Rows.{padded}
+use Rattle.model.specs.Presence.{everyone}
 use Rattle.model.specs.Shamir.{Group}
 use Rattle.model.specs.Steps.{Row}
 use Rattle.model.specs.Script.{LOAD, MUL, MOD, TRUNC, REVEAL, Line}
@@ -39,18 +40,23 @@ pub record Groups : Type 0 where
   pub three-parties : Group 7 3 (1 ∷ 4 ∷ 7 ∷ [])
 
 -- With a record of 63 numbers, for 21 openings, and one revealed number both runs come to END. With a record of 62 both stop at REVEAL, "a
--- refused command included".
-pub record NotEmpty : Type 0 where
-  pub twins : Twins (2 ∷ []) (sheet sharedOne) (sheet sharedThree)
-  pub revealed : revealedBy (sheet sharedOne) 63 1 ≡ revealedBy (sheet sharedThree) 63 1
-  pub reveals : revealedBy (sheet sharedOne) 63 1 ≡ 1 ∷ []
-  pub first-ends : stopOf (sheet sharedOne) 63 1 .number ≡ 0
-  pub second-ends : stopOf (sheet sharedThree) 63 1 .number ≡ 0
-  pub first-refused : stopOf (sheet sharedOne) 62 1 .number ≡ 25
-  pub second-refused : stopOf (sheet sharedThree) 62 1 .number ≡ 25
-  pub refused-revealed : revealedBy (sheet sharedOne) 62 1 ≡ revealedBy (sheet sharedThree) 62 1
+-- refused command included". So with the parties that this byte says present.
+pub record NotEmptyWith (present : ℕ) : Type 0 where
+  pub twins : Twins present (2 ∷ []) (sheet sharedOne) (sheet sharedThree)
+  pub revealed : revealedBy present (sheet sharedOne) 63 1 ≡ revealedBy present (sheet sharedThree) 63 1
+  pub reveals : revealedBy present (sheet sharedOne) 63 1 ≡ 1 ∷ []
+  pub first-ends : stopOf present (sheet sharedOne) 63 1 .number ≡ 0
+  pub second-ends : stopOf present (sheet sharedThree) 63 1 .number ≡ 0
+  pub first-refused : stopOf present (sheet sharedOne) 62 1 .number ≡ 25
+  pub second-refused : stopOf present (sheet sharedThree) 62 1 .number ≡ 25
+  pub refused-revealed : revealedBy present (sheet sharedOne) 62 1 ≡ revealedBy present (sheet sharedThree) 62 1
   pub first-secret : secrets small (inputIn (headerOf (sheet sharedOne)) (sheet sharedOne)) ≡ 1 ∷ []
   pub second-secret : secrets small (inputIn (headerOf (sheet sharedThree)) (sheet sharedThree)) ≡ 3 ∷ []
+
+-- with everyone present, and with party 1 absent
+pub record NotEmpty : Type 0 where
+  pub all-present : NotEmptyWith (everyone 3)
+  pub one-absent : NotEmptyWith 6
 
 -- LOAD 0, REVEAL 0, END: the same inputs, which the script reveals
 unfoldable pub plain : Row → List ℕ
@@ -60,4 +66,4 @@ plain x =
 
 -- the claim without the agreement of revealed values
 abbrev pub TooMuch : Type 0
-TooMuch = (set s s′ : List ℕ) (log shown : ℕ) → Twins set s s′ → Veil set s s′ log shown
+TooMuch = (present : ℕ) (set s s′ : List ℕ) (log shown : ℕ) → Twins present set s s′ → Veil present set s s′ log shown

@@ -4,6 +4,7 @@ use mathlib.Core.Path.{_≡_}
 use mathlib.Core.List.{List, [], _∷_, map}
 use Prim.Native.Nat.{ℕ}
 use lib.ListN.{take, replicate}
+use Rattle.model.specs.Presence.{everyone}
 use Rattle.model.specs.Script.{Command, LOAD, CONST, ADD, SUB, SCALE, MUL, MOD, TRUNC, LTZ, OVER, BLOCKS, REVEAL, BITLT, Line}
 use Rattle.model.specs.Sheet.{secrets, sheetOf}
 use Rattle.model.specs.Counts.{listed}
@@ -36,11 +37,11 @@ seen x =
     let s = x .state in
     (x .number ∷ x .place ∷ listed (s .spent .counts)) ∷ s .shown ∷ secrets small (take 12 (s .registers)) ∷ []
 
--- It is accepted, and with buffers that are just large enough it stops with 0 at END: 1 input, 5 masks, 26 triples and 58 openings are
+-- With everyone present it is accepted, and with buffers that are just large enough it stops with 0 at END: 1 input, 5 masks, 26 triples and 58 openings are
 -- spent, one value, 0, is revealed, and the first twelve registers have these secrets.
 pub record Witness : Type 0 where
-  pub is-accepted : Accepted sheet
+  pub is-accepted : Accepted (everyone 3) sheet
   pub has-lines : is-accepted .lines ≡ lines
   pub has-end : is-accepted .end ≡ 64
-  pub stops : seen (stopOf sheet 174 1)
+  pub stops : seen (stopOf (everyone 3) sheet 174 1)
       ≡ (0 ∷ 64 ∷ 1 ∷ 5 ∷ 26 ∷ 58 ∷ 1 ∷ []) ∷ (0 ∷ []) ∷ (12 ∷ 2 ∷ 1 ∷ 10 ∷ 10 ∷ 11 ∷ 1 ∷ 12 ∷ 1 ∷ 0 ∷ 1 ∷ 0 ∷ []) ∷ []

@@ -205,10 +205,11 @@ present-runs =
       same-run = same-run;
       opened-by = opened-by;
       accepted = λ present s.
-          let all = everyone (headerOf s .n) in
-          (λ A. let Q = sound present s (A .number) .permitted-set in
-          (same-accepted (same-number present all s (λ _. Q) (everyone-permitted s)) A, Q),
-          λ h. same-accepted (same-number all present s (everyone-permitted s) (λ _. h .1)) (h .0));
+          let all = everyone (headerOf s .n) in (
+            λ A. let Q = sound present s (A .number) .permitted-set in
+                (same-accepted (same-number present all s (λ _. Q) (everyone-permitted s)) A, Q),
+            λ h. same-accepted (same-number all present s (everyone-permitted s) (λ _. h .1)) (h .0),
+          );
       twelve = twelve;
       table-never = λ s log revealed e.
           let all = everyone (headerOf s .n) in

@@ -180,9 +180,11 @@ module _ (present : ℕ) (s : List ℕ) where
         unfolding lengthTests rowTests numbered holding
         whole-read z =
             let t = all-hold 4 (body (settingIn f) (inputsOf s f) (dealOf s f)) tt (sym k ∙ z) in
-            let P = H .1 in
-            (record {
-              headed = H .0;
-              presented = record { present-is = refl; permitted = rw (P .present-is) (P .permitted); opens = P .opens };
-              whole = whole s (H .0) refl (is-true _ (and-left (eqb (length s) (impliedLength (headerOf s))) true t));
-            }, P .present-is)
+            let P = H .1 in (
+              record {
+                headed = H .0;
+                presented = record { present-is = refl; permitted = rw (P .present-is) (P .permitted); opens = P .opens };
+                whole = whole s (H .0) refl (is-true _ (and-left (eqb (length s) (impliedLength (headerOf s))) true t));
+              },
+              P .present-is,
+            )

@@ -22,9 +22,10 @@ term-requires-4 c κs = let s = c .before .before .before .before in point-in (s
 -- the terms so far are at most (p − 1)² each
 two : (c : tie.After-term2) → (c .before .term .result ≤ 4611686009837453316) × (c .term2 .result ≤ 4611686009837453316)
 two c =
-    let s = c .before .before .before in
-    (term-most (s .args .setting) (s .pre .0) (s .args .row .shares) (s .pre .1) 0 (omega arith) (c .before .term .ensures),
-    term-most (s .args .setting) (s .pre .0) (s .args .row .shares) (s .pre .1) 1 (omega arith) (c .term2 .ensures))
+    let s = c .before .before .before in (
+      term-most (s .args .setting) (s .pre .0) (s .args .row .shares) (s .pre .1) 0 (omega arith) (c .before .term .ensures),
+      term-most (s .args .setting) (s .pre .0) (s .args .row .shares) (s .pre .1) 1 (omega arith) (c .term2 .ensures),
+    )
 
 three : (c : tie.After-term3) → c .term3 .result ≤ 4611686009837453316
 three c =

@@ -37,10 +37,11 @@ slice-write-list c =
 loop-again : tie.Need-loop-again Inv-loop μ-loop
 loop-again c =
     let l = c .before .before .before .before in
-    let s = l .before .before .before in
-    (writing-at-more (l .loop .inv .0) (omega (arith, length-recorded (settingOf (s .args .setting)) (s .args .t4 .shares))) (omega arith) (omega arith)
-    (shown-at (settingOf (s .args .setting)) (s .args .t4 .shares) (l .loop .j) (omega arith) (l .loop .inv .1) (c .shown .ensures)),
-    rw (l .loop .inv .1, add-one) (shifted _ (l .loop .j)))
+    let s = l .before .before .before in (
+      writing-at-more (l .loop .inv .0) (omega (arith, length-recorded (settingOf (s .args .setting)) (s .args .t4 .shares))) (omega arith) (omega arith)
+          (shown-at (settingOf (s .args .setting)) (s .args .t4 .shares) (l .loop .j) (omega arith) (l .loop .inv .1) (c .shown .ensures)),
+      rw (l .loop .inv .1, add-one) (shifted _ (l .loop .j)),
+    )
 
 same-length : tie.Need-same-length Inv-loop μ-loop
 same-length c =

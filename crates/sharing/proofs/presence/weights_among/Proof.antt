@@ -43,9 +43,13 @@ loop-again c =
     let s = c .before .before .before in
     let h : length (s .args .t2) ≡ 4 = search needs in
     let xs = take (s .args .e) (s .args .t2) in
-    let at : getD xs (l .i) 0 ≡ getD (s .args .t2) (l .i) 0 = getD-take (s .args .e) (s .args .t2) (l .i) 0 (omega arith) in
-    (omega arith, rw length-set (l .inv .1), rw add-one (weights-more (modulus (s .args .field)) xs (l .weights) (l .i) (rw (length-take-le (s .args .e) (s .args .t2) (omega arith)) (omega arith)) (omega arith)
-    (rw at (c .weight-among .ensures)) (l .inv .2)), λ k m. getD-set-other (l .weights) (l .i) k (c .weight-among .result) 0 (λ q. omega arith) ∙ l .inv .3 k (omega arith))
+    let at : getD xs (l .i) 0 ≡ getD (s .args .t2) (l .i) 0 = getD-take (s .args .e) (s .args .t2) (l .i) 0 (omega arith) in (
+      omega arith,
+      rw length-set (l .inv .1),
+      rw add-one (weights-more (modulus (s .args .field)) xs (l .weights) (l .i) (rw (length-take-le (s .args .e) (s .args .t2) (omega arith)) (omega arith)) (omega arith)
+          (rw at (c .weight-among .ensures)) (l .inv .2)),
+      λ k m. getD-set-other (l .weights) (l .i) k (c .weight-among .result) 0 (λ q. omega arith) ∙ l .inv .3 k (omega arith),
+    )
 
 returns : tie.Need-returns Inv-loop μ-loop
 returns c =

@@ -18,11 +18,12 @@ may-run-requires c κs =
     (few-parties _ n z (c .read-numbers .ensures), low-threshold _ n z (c .read-numbers .ensures))
 
 run-frame-of-requires : tie.Need-run-frame-of-requires
-run-frame-of-requires c κs = 
+run-frame-of-requires c κs =
     let m = c .before .before .before in
-    let h = m .before in
-    (search (needs, header-permitted),
-    set-permitted _ (h .before .before .header-number .ensures) (h .before .if1 .left) _ (h .read-numbers .ensures) (m .may-run .ensures) (c .before .before .if2 .taken))
+    let h = m .before in (
+      search (needs, header-permitted),
+      set-permitted _ (h .before .before .header-number .ensures) (h .before .if1 .left) _ (h .read-numbers .ensures) (m .may-run .ensures) (c .before .before .if2 .taken),
+    )
 
 pub read-run-header-spec : {M : Type 1} → statement M
 read-run-header-spec =
