@@ -57,5 +57,7 @@ pub record PresentRuns : Type 0 where
   -- "tried after 3": 12 exactly where 1, 2 and 3 do not refuse and the set is not permitted, whatever else is wrong
   pub twelve : (present : ℕ) (s : List ℕ)
       → (sheetNumber present s ≡ 12) ↔ ((firstFailed (headerTests s) ≡ 0) × (PermittedSet (headerOf s .n) (headerOf s .t) present → ⊥))
+  -- where 1, 2 or 3 refuses, the byte decides nothing
+  pub header-refused : (b c : ℕ) (s log revealed : List ℕ) → firstFailed (headerTests s) ≢ 0 → run b s log revealed ≡ run c s log revealed
   -- "Program `table` takes everyone as present": it never answers 12, whatever the header says
   pub table-never : (s log revealed : List ℕ) → run (everyone (headerOf s .n)) s log revealed .number ≢ 12

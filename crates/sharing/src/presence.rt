@@ -43,6 +43,16 @@ pub fn no_opening() -> Opening {
     }
 }
 
+// By the number of parties, the byte that says that all of them are present.
+const EVERYONE: [u8; 8] = [0, 1, 3, 7, 15, 31, 63, 127];
+
+pub fn everyone(n: usize) -> u8
+    requires { ⌜ n ≤ 7 ⌝ }
+    ensures { λ r. ⌜ r ≡ Presence.everyone n ⌝ }
+{
+    EVERYONE[n]
+}
+
 // The lowest present parties, how many there are of them, and what is left of the byte past the bits of parties 1 to n.
 pub struct Found {
     pub parties: [usize; 4],

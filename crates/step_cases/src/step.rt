@@ -12,6 +12,7 @@ use crate::numbers::up_to;
 use crate::numbers::word;
 use crate::print::answer;
 use field::table;
+use sharing::presence;
 use sharing::rows;
 use sharing::setting::Setting;
 use steps::bits;
@@ -19,7 +20,7 @@ use steps::comparison;
 use steps::places::Places;
 use steps::product;
 
-// Answers how many bytes the case has, and 0 where they are not all there or its field is not in use.
+// Answers how many bytes the case has, and 0 where they are not all there, its field is not in use, or n or t is not permitted.
 pub fn run_case(s: &[u8]) -> usize
     ensures { λ r. ⌜ r ≤ length (now (s .entry)) ⌝ }
 {
@@ -27,23 +28,30 @@ pub fn run_case(s: &[u8]) -> usize
         return 0;
     }
     let field = word(s, 1);
-    if table::in_use(field) {
-        run_rows(s, field as usize, setting_of(s, field as usize))
-    } else {
-        0
+    let n = word(s, 2);
+    let t = word(s, 3);
+    if sharing::setting_number(field, n, t) != 0 {
+        return 0;
     }
+    run_rows(s, field as usize, setting_of(field as usize, n as usize, t as usize))
 }
 
-// Field, parties and threshold, held to the largest that a step takes.
-fn setting_of(s: &[u8], field: usize) -> Setting
-    requires { ⌜ (40 ≤ length (now s)) × Fields.InUse field ⌝ }
+// With everyone present.
+fn setting_of(field: usize, n: usize, t: usize) -> Setting
+    requires { ⌜ Fields.InUse field × Fields.Parties n t ⌝ }
     ensures { λ r. ⌜ Fitting r × (r .p ≡ Fields.modulus field) ⌝ }
 {
     let p = table::modulus(field);
-    let l = up_to(table::bits(field), 31);
-    let n = up_to(word(s, 2), 7);
-    let t = up_to(word(s, 3), 3);
-    Setting { p, l, n, t }
+    let l = table::bits(field) as usize;
+    let present = words::wide(presence::everyone(n));
+    let opening = presence::opening_of(field, n, t, present);
+    Setting {
+        p,
+        l,
+        n,
+        t,
+        opening,
+    }
 }
 
 // The operands' rows stand from byte 40 on, then those of the masks, then the triples. The counts are held to the most that a step takes, so that

@@ -6,7 +6,7 @@ ghost use Rattle.model.specs.Sheet as Sheet;
 ghost use Rattle.model.specs.Refusals.{isRun};
 ghost use Rattle.figures.specs.Room.{largestSheet, recordLength, revealedLength};
 ghost use Rattle.machine.specs.Answers.{outcomeOf};
-ghost use Rattle.table.specs.Ample.{Ample};
+ghost use Rattle.table.specs.Ample.{Everyone, Ample};
 use costs::counts::Counts;
 use machine::run;
 use machine::run::Answer;
@@ -14,6 +14,7 @@ use report::lines;
 use report::number::count;
 use report::number::line_end;
 use report::number::number;
+use sharing::presence;
 use sheet::frame::Frame;
 use sheet::header;
 use sheet::header::Read;
@@ -57,12 +58,26 @@ fn run_lent(s: &[u8], log: &mut [u32], revealed: &mut [u32])
     lines::end(answer.number, answer.place, spent.counts);
 }
 
+// "Program `table` takes everyone as present": the byte for the header's n. Where there is no such n, 1, 2 or 3 refuses, whatever the byte is.
+fn everyone(s: &[u8]) -> u8
+    ensures { λ r. ⌜ Everyone (now (s .entry)) r ⌝ }
+{
+    if s.len() < 2 {
+        return 0;
+    }
+    let n = s[1];
+    if 7 < n {
+        return 0;
+    }
+    presence::everyone(n as usize)
+}
+
 // The run with buffers that none outgrows.
 fn run_ample(s: &[u8], log: &mut [u32], revealed: &mut [u32]) -> Answer
     requires { ⌜ (recordLength ≤ length (now log)) × (revealedLength ≤ length (now revealed)) ⌝ }
     ensures { λ r. ⌜ Ample (now (s .entry)) (now (log .entry)) (now (revealed .entry)) (outcomeOf r (now (log .exit)) (now (revealed .exit))) ⌝ }
 {
-    run::run(s, log, revealed)
+    run::run(s, everyone(s), log, revealed)
 }
 
 // Whether the sheet is run. "When the input is refused only the last line is printed."
