@@ -21,7 +21,7 @@ use Rattle.model.specs.Trees.{Tree, done, multiply, mask, reveal}
 use Rattle.model.specs.Steps.{Setting, Row, Deal, Worked, after, plus, minus, times, constant, value, recorded, written, byRows, nextTriple, nextMask, underMask, beaver, lessTriple, lessMask}
 use Rattle.model.specs.Script.{Line, Script, accepted, refused}
 use Rattle.model.specs.Commands.{Ended}
-use Rattle.model.specs.Sheet.{Header, headerOf, settingWith, settingOf, inputIn, dealIn, headerTests, sheetTests, sheetNumber}
+use Rattle.model.specs.Sheet.{Header, headerOf, settingWith, settingOf, inputIn, dealIn, headerTests, sheetNumber}
 use Rattle.model.specs.Run.{Supply, State, Stop, stateAfter, rowLines, runLines, start, nothingSpent, outcome, refusedInput, runScript, sheetScript, stopOf, run}
 use Rattle.model.specs.Exactness.{Accepted}
 use Rattle.model.specs.Refusals.{Untouched}
@@ -30,9 +30,8 @@ use Rattle.model.proofs.Fields.{fields}
 use Rattle.model.proofs.Presence.{presence, openers-group}
 use Rattle.model.proofs.Shared.{value-secret}
 use Rattle.model.proofs.Written.{length-recorded, length-written}
-use Rattle.model.proofs.Trying.{given-refused, front-passes}
-use Rattle.model.proofs.Lengths.{header-numbered}
-use Rattle.model.proofs.PresentTests.{twelve, everyone-permitted, same-number}
+use Rattle.model.proofs.Trying.{given-refused}
+use Rattle.model.proofs.PresentTests.{header-decides, twelve, everyone-permitted, same-number}
 use Rattle.model.proofs.Acceptance.{sound, all-map}
 use Rattle.model.proofs.Exactness.{within, exactness}
 use Rattle.model.proofs.Refusals.{numbers}
@@ -184,10 +183,10 @@ same-run present s log revealed Q =
 header-refused : (b c : ℕ) (s log revealed : List ℕ) → firstFailed (headerTests s) ≢ 0 → run b s log revealed ≡ run c s log revealed
 unfolding run stopOf outcome start written onto
 header-refused b c s log revealed z =
-    let e = same-number b c s (λ q. absurd (z q)) (λ q. absurd (z q)) in
-    let n : (x : ℕ) → sheetNumber x s ≢ 0 = λ x q. z (front-passes (headerTests s) _ (header-numbered s) (unfold sheetTests in q)) in
-    rw (given-refused (sheetNumber b s) (runScript b (headerOf s) s (length log) (length revealed) (sheetScript s)) (refusedInput (sheetNumber b s) 0) (n b),
-    given-refused (sheetNumber c s) (runScript c (headerOf s) s (length log) (length revealed) (sheetScript s)) (refusedInput (sheetNumber c s) 0) (n c), e)
+    let run-script : ℕ → Stop = λ x. runScript x (headerOf s) s (length log) (length revealed) (sheetScript s) in
+    let number = firstFailed (headerTests s) in
+    let refusal = refusedInput number 0 in
+    rw (header-decides b s z, header-decides c s z, given-refused number (run-script b) refusal z, given-refused number (run-script c) refusal z)
 
 opened-by : (present : ℕ) (h : Header) → InUse (h .field) → Parties (h .n) (h .t) → PermittedSet (h .n) (h .t) present → OpenedBy present h
 unfolding value valueFrom

@@ -15,7 +15,7 @@ use Rattle.model.specs.Refusing.{firstFailed, given}
 use Rattle.model.specs.Steps.{Row, Deal}
 use Rattle.model.specs.Sheet.{Header, headerOf, settingWith, inputIn, dealIn, all, goodMask, goodTriple, headerTests, presentTests, limitTests, lengthTests, rowTests, sheetTests, sheetNumber}
 use Rattle.model.proofs.Presence.{presence, all-permitted}
-use Rattle.model.proofs.Trying.{given-done, appended, upTo, number-most}
+use Rattle.model.proofs.Trying.{given-done, given-refused, appended, upTo, number-most}
 use Rattle.model.proofs.Lengths.{header-numbered, header-read}
 use Rattle.model.proofs.Acceptance.{same-mask, same-triple}
 
@@ -56,6 +56,10 @@ module _ (present : ℕ) (s : List ℕ) where
   header-most : firstFailed (headerTests s) ≤ 3
   unfolding headerTests fieldTests settingTests upTo
   header-most = number-most 3 (headerTests s) tt
+
+  -- where 1, 2 or 3 refuses
+  pub header-decides : firstFailed (headerTests s) ≢ 0 → sheetNumber present s ≡ firstFailed (headerTests s)
+  header-decides z = by-header ∙ given-refused _ _ _ z
 
   -- where the set is permitted, the number is that of the other tests
   pub without-set : (firstFailed (headerTests s) ≡ 0 → Set) → sheetNumber present s ≡ given (firstFailed (headerTests s)) (firstFailed (later present s)) (firstFailed (headerTests s))

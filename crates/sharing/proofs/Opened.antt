@@ -1,7 +1,7 @@
 -- The sum of an opening, term by term, and that it fits 64 bits; and what stands in the record.
 -- Assumes nothing.
 use mathlib.Core.Path.{_≡_, refl, sym, ap, _∙_}
-use mathlib.Core.Bool.{cond}
+use mathlib.Core.Bool.{Bool, true, cond}
 use mathlib.Core.List.{List, [], _∷_, map}
 use Prim.Native.Nat.{ℕ, zero, suc, _+_, _-_, _*_, _/_, _%_, _^_, _≤_, _<_}
 use native.Mathlib.Nat.{mul-le-mul}
@@ -10,15 +10,16 @@ use native.Mathlib.Omega.{arith}
 use lib.Dec.{eqb}
 use lib.ListN.{length, getD, take}
 use lib.Seq.{length-take-le, getD-take}
-use Rattle.algebra.specs.Lists.{Below, total}
+use borrow.Author.Tests.{eqb-true}
+use Rattle.algebra.specs.Lists.{Below, ontoAt, total}
 use Rattle.algebra.proofs.Lists.{below-any}
-use Rattle.algebra.proofs.Rows.{getD-tab}
+use Rattle.algebra.proofs.Rows.{getD-tab, is-tab}
 use Rattle.model.specs.Deal as Paper
-use Rattle.model.specs.Presence.{isPresent, openers}
+use Rattle.model.specs.Presence.{isPresent, everyone, openers}
 use Rattle.model.specs.Sharing.{at, weight, weighted, valueFrom}
 use Rattle.model.specs.Steps.{value, recorded}
 use Rattle.model.proofs.Polynomials.{positive}
-use Rattle.model.proofs.Presence.{openers-in, openers-distinct}
+use Rattle.model.proofs.Presence.{openers-in, openers-distinct, presence}
 use Rattle.model.proofs.Sharings.{nodes-distinct}
 use Rattle.model.proofs.Weights.{weight-lt, weighted-value}
 use Rattle.sharing.specs.Settings.{settingOf, partiesOf, weightsOf, Opens, Fitting}
@@ -114,3 +115,13 @@ pub shown-at : (S : Paper.Setting) (x : List ℕ) (j : ℕ) {rest r : ℕ} → j
 unfolding recorded
 shown-at S x j h e q =
     q ∙ rw (e, ← (bit-left (S .present) j)) (sym (getD-tab (S .n) (λ k. cond (isPresent (S .present) (suc k)) (getD x k 0) (S .p)) j h))
+
+-- with everyone present they are the row's shares
+pub all-recorded : (S : Paper.Setting) (x : List ℕ) (at : ℕ) (log : List ℕ) {log′ : List ℕ} {a : Bool} → S .n ≤ length x → a ≡ eqb (S .present) (everyone (S .n)) → a ≡ true
+    → log′ ≡ ontoAt at (take (S .n) x) log → log′ ≡ ontoAt at (recorded S x) log
+unfolding recorded
+all-recorded S x at log h e t q =
+    let p : S .present ≡ everyone (S .n) = eqb-true (S .present) (everyone (S .n)) (sym e ∙ t) in
+    q ∙ ap (λ (l : List ℕ). ontoAt at l log)
+    (is-tab (S .n) (λ j. cond (isPresent (S .present) (suc j)) (getD x j 0) (S .p)) (take (S .n) x) (length-take-le (S .n) x h)
+    (λ j l. getD-take (S .n) x j 0 l ∙ sym (ap (λ (b : Bool). cond b (getD x j 0) (S .p)) (ap (λ (b : ℕ). isPresent b (suc j)) p ∙ presence .all-present (S .n) (suc j) (omega arith) l))))

@@ -8,19 +8,20 @@ use Prim.Native.Nat.{ℕ, zero, suc, _+_, _-_, _*_, _/_, _%_, _^_, _≤_, _<_}
 use native.Mathlib.Nat.{min-le-left, pow-suc, div-one, lt-div-mul-add, div-eq-of-lt, div-div-eq-div-mul, mul-comm}
 use native.Mathlib.Numerals.{add-one}
 use native.Mathlib.Omega.{arith}
-use borrow.Author.Tests.{lt-ltb, leb-true, leb-false, eq-eqb, ne-eqb}
+use borrow.Author.Tests.{lt-ltb, leb-true, leb-false, eqb-true, eq-eqb, ne-eqb}
 use lib.Dec.{ltb, leb, eqb, ltb→lt}
-use lib.ListN.{length, getD, set, take, drop, length-append, length-take, drop-of-length-le}
+use lib.ListN.{length, getD, set, take, drop, length-append, length-set, length-take, drop-of-length-le}
 use lib.Pow.{pow-pos}
-use lib.Seq.{length-take-le, take-all, take-nil, take-append-le, take-suc-set, take-suc, drop-cons, getD-take}
+use lib.Seq.{length-take-le, take-all, take-nil, take-append-le, take-suc-set, take-suc, drop-cons, getD-take, getD-set-other}
 use Rattle.algebra.specs.Ring.{sub, mul}
 use Rattle.algebra.specs.Lists.{Below, from}
 use Rattle.algebra.proofs.Ring.{ring, mod-ring, reduced}
-use Rattle.algebra.proofs.Tests.{is-false}
+use Rattle.algebra.proofs.Tests.{is-true, is-false}
 use Rattle.algebra.proofs.Lists.{below-nil, below-head, below-tail, below-cons}
 use Rattle.model.specs.Fields.{Modulus, InUse, modulus, inverse}
 use Rattle.model.proofs.Fields.{fields}
-use Rattle.model.specs.Presence.{bit, isPresent, presentIn, absentIn, openers, permittedSet, PermittedSet}
+use Rattle.model.proofs.Presence.{presence}
+use Rattle.model.specs.Presence.{bit, isPresent, presentIn, absentIn, everyone, openers, permittedSet, PermittedSet}
 use Rattle.model.specs.Sharing.{reciprocal, ratio, weight}
 use Rattle.sharing.specs.Settings.{LowestOf, Further, WeightsOf, partiesOf, weightsOf, Opens}
 use Rattle.sharing.specs.declared.presence.Found.{Found}
@@ -174,11 +175,61 @@ weight-more p x e zs i h l k a b c =
     let m : i - 1 < length (take e zs) = rw (length-take-le e zs k) (omega arith) in
     c ∙ rw (drop-cons (take e zs) (i - 1) 0 m, s, getD-take e zs (i - 1) 0 (omega arith), a, b) (unfold weight in refl)
 
--- weights, from the first to the last
-pub weights-more : (p : ℕ) (xs : List ℕ) (ws : List ℕ) (i : ℕ) {w : ℕ} → i < length xs → i < length ws → w ≡ weight p xs (getD xs i 0)
-    → take i ws ≡ map (weight p xs) (take i xs) → take (suc i) (set ws i w) ≡ map (weight p xs) (take (suc i) xs)
-weights-more p xs ws i {w} h l e k =
-    take-suc-set ws i w l ∙ rw (k, take-suc xs i 0 h, map-append, e)
+-- weights, from the first to the last: the first i of e stand in the list, and 0 past them
+pub record Weighing (p : ℕ) (parties : List ℕ) (e i : ℕ) (ws : List ℕ) : Type 0 where
+  pub done : i ≤ e
+  pub size : length ws ≡ 4
+  pub weights : take i ws ≡ map (weight p (take e parties)) (take i (take e parties))
+  pub past : (k : ℕ) → i ≤ k → getD ws k 0 ≡ 0
+
+pub weighing-start : (p : ℕ) (parties : List ℕ) (e : ℕ) → Weighing p parties e 0 (0 ∷ 0 ∷ 0 ∷ 0 ∷ [])
+weighing-start p parties e = record { done = omega arith; size = refl; weights = refl; past = λ k _. zeros k }
+  where
+    zeros : (k : ℕ) → _≡_ {A = ℕ} (getD (0 ∷ 0 ∷ 0 ∷ 0 ∷ []) k 0) 0
+    zeros zero = refl
+    zeros (suc zero) = refl
+    zeros (suc (suc zero)) = refl
+    zeros (suc (suc (suc zero))) = refl
+    zeros (suc (suc (suc (suc k)))) = refl
+
+module _ {p : ℕ} {parties : List ℕ} {e i : ℕ} {ws : List ℕ} (W : Weighing p parties e i ws) (l : length parties ≡ 4) (h : e ≤ 4) where
+  pub weighing-more : {w : ℕ} → i < e → w ≡ weight p (take e parties) (getD parties i 0) → Weighing p parties e (i + 1) (set ws i w)
+  weighing-more {w} k q =
+      let xs = take e parties in
+      let m : i < length xs = rw (length-take-le e parties (omega arith)) k in
+      let at : w ≡ weight p xs (getD xs i 0) = rw (getD-take e parties i 0 k) q in
+      record {
+        done = omega arith;
+        size = rw length-set (W .size);
+        weights = rw add-one (take-suc-set ws i w (omega (arith, W .size)) ∙ rw (W .weights, take-suc xs i 0 m, map-append, at));
+        past = λ z n. getD-set-other ws i z w 0 (λ e. omega arith) ∙ W .past z (omega arith);
+      }
+
+  pub weighing-end : e ≤ i → WeightsOf p parties e ws
+  weighing-end k =
+      let q : i ≡ e = omega (arith, W .done) in
+      record {
+        weights = rw q at (W .weights) ∙ rw (take-all e (take e parties) (rw (length-take-le e parties (omega arith)) (omega arith)));
+        past = λ z n. W .past z (omega arith);
+      }
+
+-- the first of parties 1 to 4
+pub first-at : (i : ℕ) → i < 4 → getD (from 1 4) i 0 ≡ i + 1
+unfolding from
+first-at zero h = refl
+first-at (suc zero) h = refl
+first-at (suc (suc zero)) h = refl
+first-at (suc (suc (suc zero))) h = refl
+first-at (suc (suc (suc (suc i)))) h = absurd (omega arith)
+
+pub first-all : (e : ℕ) → e ≤ 4 → take e (from 1 4) ≡ from 1 e
+unfolding from
+first-all zero h = refl
+first-all (suc zero) h = refl
+first-all (suc (suc zero)) h = refl
+first-all (suc (suc (suc zero))) h = refl
+first-all (suc (suc (suc (suc zero)))) h = refl
+first-all (suc (suc (suc (suc (suc e))))) h = absurd (omega arith)
 
 -- the modulus of a field
 pub modulus-of : (f : ℕ) {p : ℕ} → InUse f → p ≡ modulus f → Modulus p
@@ -210,3 +261,28 @@ opens-by {p} {n} {t} o R Q W eb ep ew =
       some = subst (λ (l : List ℕ). (i : ℕ) → i < 4 → 1 ≤ getD l i 0) (sym ep) (R .some);
       low = subst (Below 8) (sym ep) (R .low);
     }
+
+-- everyone: a permitted set, and the points of parties 1 to t + 1
+pub everyone-may : (n t b : ℕ) {a : Bool} → t < n → a ≡ eqb b (everyone n) → a ≡ true → true ≡ permittedSet n t b
+everyone-may n t b h e q =
+    let p = eqb-true b (everyone n) (sym e ∙ q) in
+    rw p (sym (is-true (permittedSet n t (everyone n)) (presence .tested n t (everyone n) .1 (presence .all-permitted n t h))))
+
+pub opens-all : {p n t b : ℕ} {a : Bool} {ws : List ℕ} (o : Opening) → t ≤ 3 → t < n → a ≡ eqb b (everyone n) → a ≡ true → WeightsOf p (from 1 4) (suc t) ws
+    → o .present ≡ b → partiesOf o ≡ 1 ∷ 2 ∷ 3 ∷ 4 ∷ [] → weightsOf o ≡ ws → Opens p n t o
+unfolding from
+opens-all {p} {n} {t} {b} o h k e q W eb ep ew =
+    let all = eqb-true b (everyone n) (sym e ∙ q) in
+    record {
+      parties = ap (take (suc t)) ep ∙ first-all (suc t) (omega arith) ∙ sym (ap (openers n t) (eb ∙ all) ∙ presence .all-open n t k);
+      weights = subst (λ (l : List ℕ). WeightsOf p l (suc t) (weightsOf o)) (sym ep) (subst (WeightsOf p (1 ∷ 2 ∷ 3 ∷ 4 ∷ []) (suc t)) (sym ew) W);
+      some = subst (λ (l : List ℕ). (i : ℕ) → i < 4 → 1 ≤ getD l i 0) (sym ep) some;
+      low = subst (Below 8) (sym ep) (below-cons (omega arith) (below-cons (omega arith) (below-cons (omega arith) (below-cons (omega arith) (below-nil 8)))));
+    }
+  where
+    some : (i : ℕ) → i < 4 → 1 ≤ getD (1 ∷ 2 ∷ 3 ∷ 4 ∷ []) i 0
+    some zero h = omega arith
+    some (suc zero) h = omega arith
+    some (suc (suc zero)) h = omega arith
+    some (suc (suc (suc zero))) h = omega arith
+    some (suc (suc (suc (suc i)))) h = absurd (omega arith)

@@ -1,14 +1,17 @@
 // Who is present: the lowest t + 1 present parties, from whose shares an opening is worked, and their weights.
 ghost use mathlib.Core.Path.{_≡_};
 ghost use Prim.Native.Nat.{_+_, _-_, _/_, _≤_, _<_};
+ghost use lib.Dec.{eqb};
 ghost use lib.ListN.{set, take};
+ghost use Rattle.algebra.specs.Lists.{from};
 ghost use mathlib.Core.Logic.{_≢_};
 ghost use Rattle.algebra.specs.Lists as Lists;
 ghost use Rattle.algebra.specs.Ring.{mul};
 ghost use Rattle.model.specs.Fields as Fields;
 ghost use Rattle.model.specs.Presence as Presence;
 ghost use Rattle.model.specs.Sharing as Sharing;
-ghost use Rattle.sharing.specs.Settings.{LowestOf, Further, WeightsOf, Opens};
+ghost use Rattle.sharing.specs.Settings.{LowestOf, Further, WeightsOf, partiesOf, weightsOf, Opens};
+use crate::secret;
 use field::arithmetic;
 use field::table;
 
@@ -51,6 +54,14 @@ pub fn everyone(n: usize) -> u8
     ensures { λ r. ⌜ r ≡ Presence.everyone n ⌝ }
 {
     EVERYONE[n]
+}
+
+// Whether the byte is that of everyone.
+pub fn all_present(n: usize, present: u32) -> bool
+    requires { ⌜ n ≤ 7 ⌝ }
+    ensures { λ r. ⌜ r ≡ eqb present (Presence.everyone n) ⌝ }
+{
+    present == words::wide(everyone(n))
 }
 
 // The lowest present parties, how many there are of them, and what is left of the byte past the bits of parties 1 to n.
@@ -114,9 +125,12 @@ pub fn lowest(n: usize, e: usize, present: u32) -> Found
 
 // Whether no bit beyond n is set and t + 1 parties are present.
 pub fn permitted(n: usize, t: usize, present: u32) -> bool
-    requires { ⌜ (n ≤ 7) × (t ≤ 3) ⌝ }
+    requires { ⌜ (n ≤ 7) × (t ≤ 3) × (t < n) ⌝ }
     ensures { λ r. ⌜ r ≡ Presence.permittedSet n t present ⌝ }
 {
+    if all_present(n, present) {
+        return true;
+    }
     let found = lowest(n, t + 1, present);
     if found.beyond == 0 {
         found.count == t + 1
@@ -182,15 +196,25 @@ fn weights_among(field: usize, parties: [usize; 4], e: usize) -> [u32; 4]
     weights
 }
 
-// How openings are worked with these parties present, which is found once in a run.
-pub fn opening_of(field: usize, n: usize, t: usize, present: u32) -> Opening
-    requires { ⌜ Fields.InUse field × Fields.Parties n t × Presence.PermittedSet n t present ⌝ }
-    ensures { λ r. ⌜ (r .present ≡ present) × Opens (Fields.modulus field) n t r ⌝ }
+// The weights of parties 1 to e, by which recovery goes too.
+fn first_weights(p: u32, e: usize) -> [u32; 4]
+    requires { ⌜ Fields.Modulus p × (e ≤ 4) ⌝ }
+    ensures { λ r. ⌜ WeightsOf p (from 1 4) e r ⌝ }
 {
-    let e = t + 1;
-    let found = lowest(n, e, present);
-    let parties = found.parties;
-    let weights = weights_among(field, parties, e);
+    let mut weights = [0u32; 4];
+    let mut i = 0;
+    while i < e {
+        weights[i] = secret::weight(p, e, i + 1);
+        i += 1;
+    }
+    weights
+}
+
+// The points of these parties with these weights.
+fn points(present: u32, parties: [usize; 4], weights: [u32; 4]) -> Opening
+    requires { ⌜ Lists.Below 8 parties ⌝ }
+    ensures { λ r. ⌜ (r .present ≡ present) × (partiesOf r ≡ parties) × (weightsOf r ≡ weights) ⌝ }
+{
     let first = Point {
         party: parties[0] as u32,
         weight: weights[0],
@@ -214,4 +238,20 @@ pub fn opening_of(field: usize, n: usize, t: usize, present: u32) -> Opening
         third,
         fourth,
     }
+}
+
+// How openings are worked with these parties present, which is found once in a run. With everyone present no weight is worked out.
+pub fn opening_of(field: usize, n: usize, t: usize, present: u32) -> Opening
+    requires { ⌜ Fields.InUse field × Fields.Parties n t × Presence.PermittedSet n t present ⌝ }
+    ensures { λ r. ⌜ (r .present ≡ present) × Opens (Fields.modulus field) n t r ⌝ }
+{
+    let e = t + 1;
+    if all_present(n, present) {
+        let weights = first_weights(table::modulus(field), e);
+        return points(present, [1usize, 2, 3, 4], weights);
+    }
+    let found = lowest(n, e, present);
+    let parties = found.parties;
+    let weights = weights_among(field, parties, e);
+    points(present, parties, weights)
 }

@@ -12,7 +12,7 @@ use crate::rows::Row;
 const BINOMIALS: [u32; 16] = [1, 0, 0, 0, 2, 1, 0, 0, 3, 3, 1, 0, 4, 6, 4, 1];
 
 // The Lagrange weight at 0 of party x among parties 1 to e, below p. It is the binomial coefficient e over x, with a minus where x is even.
-fn weight(p: u32, e: usize, x: usize) -> u32
+pub fn weight(p: u32, e: usize, x: usize) -> u32
     requires { ⌜ Fields.Modulus p × (1 ≤ x) × (x ≤ e) × (e ≤ 4) ⌝ }
     ensures { λ r. ⌜ (r ≡ Sharing.weight p (from 1 e) x) × (r < p) ⌝ }
 {

@@ -8,7 +8,7 @@ use native.Mathlib.Omega.{arith}
 use lib.Dec.{T, eqb, eqb→eq}
 use lib.ListN.{length}
 use Rattle.algebra.proofs.Tests.{and-left, is-true}
-use Rattle.model.specs.Fields.{fieldTests, settingTests}
+use Rattle.model.specs.Fields.{Parties, fieldTests, settingTests}
 use Rattle.model.specs.Presence.{PermittedSet, permittedSet}
 use Rattle.model.specs.Refusing.{firstFailed}
 use Rattle.model.specs.Sheet.{Header, headerOf, headerSize, settingWith, limits, impliedLength, inputIn, dealIn, dealRows, rowsAt, all, headerTests, presentTests, limitTests, lengthTests, rowTests, sheetTests, Permitted}
@@ -34,12 +34,8 @@ module _ (s : List ℕ) {n : ℕ} (e : n ≡ firstFailed (headerTests s)) (z : n
   pub header-long : headerSize (headerOf s) ≤ length s
   header-long = header-read s e z .long
 
-  -- so few parties that who is present can be told
-  pub few-parties : {h : Header} → h ≡ headerOf s → h .n ≤ 7
-  few-parties q = rw q (header-read s e z .people .most)
-
-  pub low-threshold : {h : Header} → h ≡ headerOf s → h .t ≤ 3
-  low-threshold q = let P = header-read s e z .people in rw q (omega (arith, P))
+  pub people-read : {h : Header} → h ≡ headerOf s → Parties (h .n) (h .t)
+  people-read q = rw q (header-read s e z .people)
 
   module _ {h : Header} (q : h ≡ headerOf s) {a : Bool} (l : a ≡ limits h) where
     pub header-permitted : a ≡ true → Permitted h

@@ -5,6 +5,7 @@ ghost use Prim.Native.Nat.{_+_, _≤_, _<_};
 ghost use lib.ListN.{length};
 ghost use Rattle.model.specs.Refusing.{firstFailed};
 ghost use Rattle.model.specs.Sheet as Sheet;
+ghost use Rattle.model.specs.Fields as Fields;
 ghost use Rattle.model.specs.Presence.{PermittedSet, permittedSet};
 ghost use Rattle.sheet.specs.Framed.{Headed, Presented, RunHeaded};
 ghost use Rattle.sheet.specs.Reading.{told, Reads, runTests};
@@ -65,7 +66,7 @@ fn within_limits(h: Header) -> bool
 
 // Whether 12 does not refuse: no bit beyond n is set, and t + 1 parties are present.
 fn may_run(h: Header, present: u32) -> bool
-    requires { ⌜ (told h .n ≤ 7) × (told h .t ≤ 3) ⌝ }
+    requires { ⌜ Fields.Parties (told h .n) (told h .t) ⌝ }
     ensures { λ r. ⌜ r ≡ permittedSet (told h .n) (told h .t) present ⌝ }
 {
     presence::permitted(h.n as usize, h.t as usize, present)

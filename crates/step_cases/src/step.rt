@@ -33,7 +33,11 @@ pub fn run_case(s: &[u8]) -> usize
     if sharing::setting_number(field, n, t) != 0 {
         return 0;
     }
-    run_rows(s, field as usize, setting_of(field as usize, n as usize, t as usize))
+    run_rows(
+        s,
+        field as usize,
+        setting_of(field as usize, n as usize, t as usize),
+    )
 }
 
 // With everyone present.

@@ -1,42 +1,35 @@
--- `presence::opening_of` meets its contract: where the set is permitted, the parties found are those that an opening is worked from.
+-- `presence::opening_of` meets its contract: the points of everyone, or of the lowest parties found.
 -- Assumes nothing.
-use Rattle.sharing.proofs.Presences.{four, opens-by}
+use Rattle.algebra.proofs.Lists.{below-nil, below-cons}
+use Rattle.sharing.proofs.Presences.{opens-by, opens-all}
 use borrow.Author.Needs.{needs}
-use Prim.Native.Nat.{ℕ, _^_, _<_}
-use Rattle.algebra.proofs.Lists.{below-any}
-use lib.ListN.{length, getD}
-use mathlib.Core.Path.{_≡_, refl}
+use mathlib.Core.Path.{_≡_, _∙_}
 use native.Mathlib.Numerals.{add-one}
 use native.Mathlib.Omega.{arith}
 use Rattle.sharing.proofs.presence.opening_of.Statement.{statement}
 use Rattle.sharing.proofs.presence.opening_of.Tie as tie
 
+points-requires : tie.Need-points-requires
+points-requires c κs = below-cons (omega arith) (below-cons (omega arith) (below-cons (omega arith) (below-cons (omega arith) (below-nil 8))))
+
 returns : tie.Need-returns
 returns c =
-    let s = c .before .before .before in
-    let found = c .before .before .lowest in
-    let parties : length (found .result .parties) ≡ 4 = search needs in
-    let weights : length (c .weights-among .result) ≡ 4 = search needs in
-    (refl, opens-by _ (rw add-one at (found .ensures)) (s .pre .2) (rw add-one at (c .weights-among .ensures)) refl (four _ parties) (four _ weights))
+    let test = c .before .before .before in
+    let s = test .before .before in
+    let P = c .points .ensures in
+    let W = c .before .first-weights .ensures in
+    let p = c .before .before .modulus .ensures .0 in
+    (P .0, opens-all _ (omega (arith, s .pre .1)) (omega (arith, s .pre .1)) (test .before .all-present .ensures) (test .if1 .taken) (rw (add-one, p) at W) (P .0) (P .1) (P .2))
 
--- a party is a small number
-party-fits : (c : tie.After-weights-among) (i : ℕ) → getD (c .before .before .lowest .result .parties) i 0 < 2 ^ 32
-party-fits c i = let l = below-any {p = 8} (omega arith) (c .before .before .lowest .ensures .low) i in omega arith
-
-first-fits : tie.Need-cast-t18
-first-fits c = omega (arith, party-fits c 0)
-
-second-fits : tie.Need-cast-t21
-second-fits c = omega (arith, party-fits c 1)
-
-third-fits : tie.Need-cast-t18-2
-third-fits c = omega (arith, party-fits c 2)
-
-fourth-fits : tie.Need-cast-t21-2
-fourth-fits c = omega (arith, party-fits c 3)
+returns-2 : tie.Need-returns-2
+returns-2 c =
+    let w = c .before in
+    let l = w .before .before in
+    let s = l .before .before .before in
+    let P = c .points2 .ensures in
+    (P .0, opens-by _ (rw add-one at (l .lowest .ensures)) (s .pre .2) (rw add-one at (w .weights-among .ensures)) (P .0) (P .1) (P .2))
 
 pub opening-of-spec : {M : Type 1} → statement M
 opening-of-spec =
     tie.close
-    (tie.spec (λ c. search needs) (λ c κs. search needs) (λ c κs. search needs) (λ c. search needs) first-fits (λ c. search needs) (λ c. search needs) second-fits
-    (λ c. search needs) (λ c. search needs) third-fits (λ c. search needs) (λ c. search needs) fourth-fits (λ c. search needs) returns)
+    (tie.spec (λ c. search needs) (λ c κs. search needs) (λ c κs. search needs) (λ c κs. search needs) points-requires returns (λ c κs. search needs) (λ c κs. search needs) (λ c κs. search needs) returns-2)

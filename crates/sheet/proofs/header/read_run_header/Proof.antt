@@ -3,7 +3,7 @@
 use borrow.Author.Needs.{needs}
 use Rattle.model.specs.Sheet.{headerSize}
 use Rattle.model.proofs.Trying.{trying}
-use Rattle.sheet.proofs.Answers.{header-long, few-parties, low-threshold, header-permitted, set-refused, set-permitted, within-limits-run, over-limits-run, run-headed-read}
+use Rattle.sheet.proofs.Answers.{header-long, people-read, header-permitted, set-refused, set-permitted, within-limits-run, over-limits-run, run-headed-read}
 use Rattle.sheet.proofs.header.read_run_header.Statement.{statement}
 use Rattle.sheet.proofs.header.read_run_header.Tie as tie
 
@@ -12,10 +12,7 @@ unfolding headerSize
 read-numbers-requires c κs = search (needs, header-long)
 
 may-run-requires : tie.Need-may-run-requires
-may-run-requires c κs =
-    let n = c .before .before .header-number .ensures in
-    let z = c .before .if1 .left in
-    (few-parties _ n z (c .read-numbers .ensures), low-threshold _ n z (c .read-numbers .ensures))
+may-run-requires c κs = people-read _ (c .before .before .header-number .ensures) (c .before .if1 .left) (c .read-numbers .ensures)
 
 run-frame-of-requires : tie.Need-run-frame-of-requires
 run-frame-of-requires c κs =
