@@ -15,9 +15,9 @@ use Rattle.table.specs.Ample.{Everyone, Ample}
 use Rattle.table.proofs.run_ample.Statement.{statement}
 use Rattle.table.proofs.run_ample.Tie as tie
 
-ample : (s log revealed : List ℕ) {b : ℕ} {x : Outcome} → recordLength ≤ length log → revealedLength ≤ length revealed → Everyone s b → x ≡ run b s log revealed
+ample : (s log revealed : List ℕ) (b : ℕ) {x : Outcome} → recordLength ≤ length log → revealedLength ≤ length revealed → Everyone s b → x ≡ run b s log revealed
     → Ample s log revealed x
-ample s log revealed h k every q =
+ample s log revealed b h k every q =
     let all = everyone (headerOf s .n) in
     let e = q ∙ every log revealed in
     let n = ap (λ (x : Outcome). x .number) e in
