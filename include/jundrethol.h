@@ -60,7 +60,7 @@ extern "C" {
 #define JUNDRETHOL_NO_INPUT 22        /* no input row is left */
 #define JUNDRETHOL_NO_MASK 23         /* no mask is left */
 #define JUNDRETHOL_TOO_FEW_TRIPLES 24 /* fewer triples are left than the command takes */
-#define JUNDRETHOL_RECORD_FULL 25     /* the record cannot take all shares of the command */
+#define JUNDRETHOL_RECORD_FULL 25     /* the record cannot take all numbers of the command, n for each opening */
 #define JUNDRETHOL_REVEALED_FULL 26   /* the revealed list is full */
 
 /* A line of an exchange's list is refused: the calls of the lines before it stand. */
@@ -95,7 +95,8 @@ extern "C" {
  *
  * present    says which parties are present: bit j - 1, counted from the lowest, says that party j is. Everyone is (1 << n) - 1. An opened value is
  *            worked from the shares of the lowest t + 1 present parties. The sheet has the shares of absent parties all the same, and their
- *            columns are worked like the others. Values, registers, marks and counts are the same for every set that 12 does not refuse.
+ *            columns are worked like the others. The answer, the place, values, registers, marks and counts are the same for every set that 12
+ *            does not refuse.
  * record     gets n numbers for each opening, party 1's first, in order: counts[JUNDRETHOL_COUNT_OPENINGS] times n numbers. They are the shares
  *            that are opened; p itself, which is no share, stands for an absent one.
  * revealed   gets the values of the finished REVEALs in order: counts[JUNDRETHOL_COUNT_REVEALED] numbers.

@@ -79,8 +79,32 @@ one-absent =
       second-secret = refl;
     }
 
+set-absent : NotEmptyWith 5
+unfolding add sub mul allBelow from tab row modulus bits largestK inUse fieldTests settingTests inverse inversePowerOf2 parties eval share newton reciprocal slope interpolate recover secret sameList isSharing number rowAt plus minus times constant value bit presentIn absentIn everyone openers valueFrom byRows comparisonFrom comparison spelled remainder floor byteSays allPass numberAt readingAt scriptFrom scriptOf costBy headerOf headerSize maskBits largestIn limits impliedLength scriptIn rowsAt masksFrom triplesFrom inputIn dealIn all maskRows tripleRows spell secrets goodMask goodTriple firstFailed headerTests limitTests lengthTests rowTests sheetTests bytesOf shareBytes rowBytes headerBytes sheetOf allSet marked check pay command throughLines runLines nothingSpent start runScript stopOf sheet lines permittedSet presentTests
+set-absent =
+    record {
+      twins =
+          record {
+            first = record { lines = lines; end = 18; number = refl; script = refl };
+            second = record { lines = lines; end = 18; number = refl; script = refl };
+            header = refl;
+            script = refl;
+            parties = one-party 2 (omega arith) (omega arith);
+            inputs = and-row agree end;
+          };
+      revealed = refl;
+      reveals = refl;
+      first-ends = refl;
+      second-ends = refl;
+      first-refused = refl;
+      second-refused = refl;
+      refused-revealed = refl;
+      first-secret = refl;
+      second-secret = refl;
+    }
+
 pub not-empty : NotEmpty
-not-empty = record { all-present = all-present; one-absent = one-absent }
+not-empty = record { all-present = all-present; one-absent = one-absent; set-absent = set-absent }
 
 -- the deal of nothing, and that a deal of no masks and no triples is it
 nothing : Deal

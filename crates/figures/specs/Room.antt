@@ -48,6 +48,7 @@ abbrev pub longNumber : ℕ → Header → ℕ
 longNumber present h =
     firstFailed ((inUse (h .field), 2) ∷ (parties (h .n) (h .t), 3) ∷ (permittedSet (h .n) (h .t) present, 12) ∷ (false, 4) ∷ [])
 
+-- and "1 to 4 as in the paper" where it is to be turned over or back, which looks at no byte
 abbrev pub longTurned : Header → ℕ
 longTurned h = firstFailed ((inUse (h .field), 2) ∷ (parties (h .n) (h .t), 3) ∷ (false, 4) ∷ [])
 

@@ -53,10 +53,11 @@ pub record NotEmptyWith (present : ℕ) : Type 0 where
   pub first-secret : secrets small (inputIn (headerOf (sheet sharedOne)) (sheet sharedOne)) ≡ 1 ∷ []
   pub second-secret : secrets small (inputIn (headerOf (sheet sharedThree)) (sheet sharedThree)) ≡ 3 ∷ []
 
--- with everyone present, and with party 1 absent
+-- with everyone present, with party 1 absent, and with party 2, the set's own, absent
 pub record NotEmpty : Type 0 where
   pub all-present : NotEmptyWith (everyone 3)
   pub one-absent : NotEmptyWith 6
+  pub set-absent : NotEmptyWith 5
 
 -- LOAD 0, REVEAL 0, END: the same inputs, which the script reveals
 unfoldable pub plain : Row → List ℕ

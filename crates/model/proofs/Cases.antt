@@ -29,7 +29,7 @@ use Rattle.model.specs.PresentCases.{presentCases}
 use Rattle.model.specs.EntryCases.{entryCases}
 use Rattle.model.specs.CallCases.{callCases}
 use Rattle.model.specs.ColumnCases.{columnCases}
-use Rattle.model.specs.Cases.{checks, partsSeen, choices, weightsSeen, Cases}
+use Rattle.model.specs.Cases.{checks, partsSeen, weightsSeen, Cases}
 use Rattle.model.proofs.Laws.{laws}
 
 after : {A B : Type 0} → A → B → B
@@ -68,5 +68,5 @@ unfolding add sub mul allBelow from onto tab row modulus bits largestK inUse fie
 masked-hold = after presents-hold refl
 
 pub cases : Cases
-unfolding add sub mul total modulus inverse reciprocal ratio weight choices weightsSeen tab bits number headerOf headerSize maskBits bytesOf shareBytes sharesFrom regrouped transposed columnForm partOf sharesIn partsSeen from onto firstFailed allSet check checks isTEXTDATA alone plain quoted field isEnd fields readLine isDigit allDigits decimalFrom time lasting call fourFields lineAt lineNumber taken imported
-cases = record { sheets = sheets-hold; scripts = scripts-hold; runs = runs-hold; masked = masked-hold; presents = presents-hold; order = refl; entries = entries-hold; calls = calls-hold; columns = columns-hold; parts = refl; weights = refl; values = refl; plain-names = refl; quoted-names = refl }
+unfolding add sub mul total modulus inverse reciprocal ratio weight bit presentIn absentIn openers weightsSeen tab bits number headerOf headerSize maskBits bytesOf shareBytes sharesFrom regrouped transposed columnForm partOf sharesIn partsSeen from onto firstFailed allSet check checks isTEXTDATA alone plain quoted field isEnd fields readLine isDigit allDigits decimalFrom time lasting call fourFields lineAt lineNumber taken imported
+cases = record { sheets = sheets-hold; scripts = scripts-hold; runs = runs-hold; masked = masked-hold; presents = presents-hold; order = refl; entries = entries-hold; calls = calls-hold; columns = columns-hold; parts = refl; weights = refl; opened-of-five = refl; opened-of-seven = refl; values = refl; plain-names = refl; quoted-names = refl }

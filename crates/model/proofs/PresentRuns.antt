@@ -12,7 +12,7 @@ use lib.Seq.{getD-append-add, getD-drop}
 use Rattle.algebra.specs.Lists.{All, none, one, Below, onto}
 use Rattle.algebra.specs.Rows.{tab}
 use Rattle.algebra.proofs.Lists.{below-any, length-onto}
-use Rattle.algebra.proofs.Rows.{getD-tab}
+use Rattle.algebra.proofs.Rows.{getD-tab, tab-ext}
 use Rattle.model.specs.Fields.{Parties, InUse, modulus}
 use Rattle.model.specs.Sharing.{Sharing, at, secret, valueFrom, weight, weighted}
 use Rattle.model.specs.Presence.{isPresent, everyone, PermittedSet, openers}
@@ -37,7 +37,7 @@ use Rattle.model.proofs.Exactness.{within, exactness}
 use Rattle.model.proofs.Refusals.{numbers}
 use Rattle.model.proofs.Secrecy.{own-stop}
 use Rattle.model.proofs.SumFirst.{sum-first}
-use Rattle.model.proofs.Weights.{weighted-value}
+use Rattle.model.proofs.Weights.{weighted-value, weighted-cong}
 use Rattle.model.proofs.Polynomials.{positive}
 use Rattle.model.proofs.Sharings.{nodes-distinct}
 
@@ -188,17 +188,34 @@ header-refused b c s log revealed z =
     let refusal = refusedInput number 0 in
     rw (header-decides b s z, header-decides c s z, given-refused number (run-script b) refusal z, given-refused number (run-script c) refusal z)
 
+same-recorded : (S : Setting) (x y : Row) → ((j : ℕ) → j < S .n → isPresent (S .present) (suc j) ≡ true → getD x j 0 ≡ getD y j 0) → recorded S x ≡ recorded S y
+unfolding recorded
+same-recorded S x y k = tab-ext (S .n) _ _ (λ j l. go (isPresent (S .present) (suc j)) (k j l))
+  where
+    go : {a b : ℕ} (c : Bool) → (c ≡ true → a ≡ b) → cond c a (S .p) ≡ cond c b (S .p)
+    go true e = e refl
+    go false e = refl
+
 opened-by : (present : ℕ) (h : Header) → InUse (h .field) → Parties (h .n) (h .t) → PermittedSet (h .n) (h .t) present → OpenedBy present h
 unfolding value valueFrom
 opened-by present h f P Q =
     let M = fields (h .field) f .modulus-is in
     let xs = openers (h .n) (h .t) present in
     let G = openers-group (h .n) (h .t) present (omega arith) in
+    let reduced : (x : Row) → weighted (modulus (h .field)) xs (at 0 x) % modulus (h .field) ≡ value (settingWith present h) x =
+    λ x. weighted-value M xs (at 0 x) (nodes-distinct xs (G .points .distinct) (λ z m. let l = G .points .most z m in omega arith)) in
     record {
+      leans-on-present = λ x y k. (
+        sym (reduced x)
+            ∙ ap (λ (z : ℕ). z % modulus (h .field)) (weighted-cong (modulus (h .field)) xs (at 0 x) (at 0 y)
+            (λ z m. let L = presence .opened-from (h .n) (h .t) present Q in k z (L .parties z m .0) (L .parties z m .1) (L .present-all z m)))
+            ∙ reduced y,
+        same-recorded (settingWith present h) x y (λ j l e. k (suc j) (omega arith) l e),
+      );
       secret-is = λ x s. value-secret (settingWith present h) M P s;
       sum-fits = λ x b. unfold weighted in sum-first .products-fit (h .field) f .four-products xs (weight (modulus (h .field)) xs) (at 0 x) (omega (arith, G .points .count))
           (λ z m. (sum-first .products-fit (h .field) f .weights-below xs z, share-below (positive M) b z));
-      reduced-last = λ x. weighted-value M xs (at 0 x) (nodes-distinct xs (G .points .distinct) (λ z m. let l = G .points .most z m in omega arith));
+      reduced-last = reduced;
     }
   where
     share-below : {p : ℕ} {x : Row} → 0 < p → Below p x → (z : ℕ) → at 0 x z < p
@@ -219,7 +236,12 @@ present-runs =
                 (same-accepted (same-number present all s (λ _. Q) (everyone-permitted s)) A, Q),
             λ h. same-accepted (same-number all present s (everyone-permitted s) (λ _. h .1)) (h .0),
           );
-      twelve = twelve;
+      twelve = λ present s log revealed.
+          let N = numbers .of-run present s log revealed in (
+            λ e. twelve present s .0 (sym (N .sheet-place (inr e) .0) ∙ e),
+            λ h. let e = twelve present s .1 h in N .sheet-place (N .sheet-first .1 (λ z. omega arith)) .0 ∙ e,
+          );
+      twelve-place = λ present s log revealed e. numbers .of-run present s log revealed .sheet-place (inr e) .1;
       header-refused = header-refused;
       table-never = λ s log revealed e.
           let all = everyone (headerOf s .n) in

@@ -3,11 +3,12 @@
 use mathlib.Core.Path.{_≡_}
 use mathlib.Core.Bool.{Bool, true, false}
 use mathlib.Core.List.{List, [], _∷_, _++_, map}
-use Prim.Native.Nat.{ℕ, zero, suc, _*_, _%_, _^_}
-use lib.ListN.{replicate}
+use Prim.Native.Nat.{ℕ, _*_, _%_, _^_}
+use lib.ListN.{length, take, replicate}
 use Rattle.algebra.specs.Lists.{from, total}
 use Rattle.model.specs.Fields.{modulus}
 use Rattle.model.specs.Sharing.{weight}
+use Rattle.model.specs.Presence.{presentIn, openers}
 use Rattle.model.specs.Sheet.{headerOf, shareBytes}
 use Rattle.model.specs.Counts.{noCounts}
 use Rattle.model.specs.Costs.{Cost}
@@ -48,18 +49,13 @@ partsSeen s =
     let h = headerOf s in
     map (λ j. sharesIn h (partOf h j (columnForm s))) (from 1 (h .n))
 
--- all sets of k of some parties, each in their order
-unfoldable pub choices : ℕ → List ℕ → List (List ℕ)
-choices zero js = [] ∷ []
-choices (suc k) [] = []
-choices (suc k) (j ∷ js) = map (λ xs. j ∷ xs) (choices k js) ++ choices (suc k) js
-
--- Of each set of k of seven parties, in a field: the sums, modulo p, of weight times 1, of weight times party, times its square, and so on, k of them. They
--- are the values at 0 that the weights give the polynomials 1, X, X² and so on.
-unfoldable pub weightsSeen : ℕ → ℕ → List (List ℕ)
-weightsSeen f k =
+-- Of the parties that a byte says present, of seven, in a field: the sums, modulo p, of weight times 1, of weight times party, times its square, and so on,
+-- as many as there are parties. They are the values at 0 that the weights give the polynomials 1, X, X² and so on.
+unfoldable pub weightsSeen : ℕ → ℕ → List ℕ
+weightsSeen f b =
     let p = modulus f in
-    map (λ xs. map (λ e. total xs (λ x. weight p xs x * x ^ e) % p) (from 0 k)) (choices k (from 1 7))
+    let xs = presentIn b (from 1 7) in
+    map (λ e. total xs (λ x. weight p xs x * x ^ e) % p) (from 0 (length xs))
 
 -- Each row of the eight tables computes to what the reference, a separately written program, answers by paper and requests. It writes the tables, and
 -- the proved programs `cases`, `entries`, `call_cases` and `column_cases` answer the same sheets, calls, lists and inputs.
@@ -77,9 +73,14 @@ pub record Cases : Type 0 where
   -- one mask of 4 rows and one triple, with the shares 1 to 24 in the sheet's order
   pub parts : partsSeen (0 ∷ 3 ∷ 1 ∷ 1 ∷ 0 ∷ 1 ∷ 0 ∷ 1 ∷ 0 ∷ 2 ∷ 0 ∷ 201 ∷ 202 ∷ shareBytes (from 1 24))
       ≡ (1 ∷ 4 ∷ 7 ∷ 10 ∷ 13 ∷ 16 ∷ 19 ∷ 22 ∷ []) ∷ (2 ∷ 5 ∷ 8 ∷ 11 ∷ 14 ∷ 17 ∷ 20 ∷ 23 ∷ []) ∷ (3 ∷ 6 ∷ 9 ∷ 12 ∷ 15 ∷ 18 ∷ 21 ∷ 24 ∷ []) ∷ []
-  -- request 5: the weights of any t + 1 of seven parties, for each field and threshold. 1 has the value 1 at 0, and the powers of X have the value 0.
-  pub weights : map (λ f. map (weightsSeen f) (2 ∷ 3 ∷ 4 ∷ [])) (from 0 4)
-      ≡ replicate 4 (replicate 21 (1 ∷ 0 ∷ []) ∷ replicate 35 (1 ∷ 0 ∷ 0 ∷ []) ∷ replicate 35 (1 ∷ 0 ∷ 0 ∷ 0 ∷ []) ∷ [])
+  -- request 5: the weights of all sets of seven parties, for each field. 1 has the value 1 at 0, and the powers of X have the value 0.
+  pub weights : map (λ f. map (weightsSeen f) (from 0 128)) (from 0 4)
+      ≡ replicate 4 (map (λ b. take (length (presentIn b (from 1 7))) (1 ∷ replicate 6 0)) (from 0 128))
+  -- "the lowest t + 1 present parties": of five parties three, and of seven four
+  pub opened-of-five : map (openers 5 2) (7 ∷ 11 ∷ 21 ∷ 26 ∷ 28 ∷ 30 ∷ 31 ∷ [])
+      ≡ (1 ∷ 2 ∷ 3 ∷ []) ∷ (1 ∷ 2 ∷ 4 ∷ []) ∷ (1 ∷ 3 ∷ 5 ∷ []) ∷ (2 ∷ 4 ∷ 5 ∷ []) ∷ (3 ∷ 4 ∷ 5 ∷ []) ∷ (2 ∷ 3 ∷ 4 ∷ []) ∷ (1 ∷ 2 ∷ 3 ∷ []) ∷ []
+  pub opened-of-seven : map (openers 7 3) (85 ∷ 94 ∷ 120 ∷ 127 ∷ [])
+      ≡ (1 ∷ 3 ∷ 5 ∷ 7 ∷ []) ∷ (2 ∷ 3 ∷ 4 ∷ 5 ∷ []) ∷ (4 ∷ 5 ∷ 6 ∷ 7 ∷ []) ∷ (1 ∷ 2 ∷ 3 ∷ 4 ∷ []) ∷ []
   -- the values of fields, of which an import shows the times alone: "a""b","<CR><LF>,"<CR><LF>c
   pub values : readLine (34 ∷ 97 ∷ 34 ∷ 34 ∷ 98 ∷ 34 ∷ 44 ∷ 34 ∷ 13 ∷ 10 ∷ 44 ∷ 34 ∷ 13 ∷ 10 ∷ 99 ∷ [])
       ≡ found ((97 ∷ 34 ∷ 98 ∷ []) ∷ (13 ∷ 10 ∷ 44 ∷ []) ∷ []) (13 ∷ 10 ∷ 99 ∷ [])

@@ -42,7 +42,8 @@ pub record PermittedSet (n t present : ℕ) : Type 0 where
 unfoldable pub permittedSet : ℕ → ℕ → ℕ → Bool
 permittedSet n t present = ltb present (2 ^ n) && leb (suc t) (length (presentIn present (from 1 n)))
 
--- "an opening is worked from the lowest t + 1 present parties". Where fewer are present, which 12 shuts out, the lowest absent ones follow.
+-- "an opening is worked from the lowest t + 1 present parties". Where fewer are present, which 12 shuts out, the lowest absent ones follow, so that there
+-- are always t + 1 of n parties and no claim about steps asks for a permitted set.
 unfoldable pub openers : ℕ → ℕ → ℕ → List ℕ
 openers n t present = let all = from 1 n in take (suc t) (presentIn present all ++ absentIn present all)
 

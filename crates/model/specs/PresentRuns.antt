@@ -8,12 +8,12 @@ use mathlib.Core.List.{List}
 use Prim.Native.Nat.{ℕ, suc, _+_, _*_, _%_, _^_, _≤_, _<_}
 use lib.ListN.{length, getD}
 use Rattle.algebra.specs.Lists.{Below}
-use Rattle.model.specs.Fields.{Parties, modulus, InUse}
+use Rattle.model.specs.Fields.{Parties, InUse}
 use Rattle.model.specs.Sharing.{Sharing, at, secret, weighted}
 use Rattle.model.specs.Presence.{isPresent, everyone, PermittedSet, openers}
 use Rattle.model.specs.Refusing.{firstFailed}
-use Rattle.model.specs.Steps.{Row, value}
-use Rattle.model.specs.Sheet.{Header, headerOf, settingWith, headerTests, sheetNumber}
+use Rattle.model.specs.Steps.{Row, value, recorded}
+use Rattle.model.specs.Sheet.{Header, headerOf, settingWith, headerTests}
 use Rattle.model.specs.Run.{Outcome, run}
 use Rattle.model.specs.Exactness.{Accepted}
 
@@ -38,6 +38,10 @@ pub record SameRun (present : ℕ) (h : Header) (all x : Outcome) : Type 0 where
 
 -- What an opening gives, with the modulus, the parties and the threshold of a header h.
 pub record OpenedBy (present : ℕ) (h : Header) : Type 0 where
+  -- "However an opening is worked now, a machine it leans on may be down": the value and the record's numbers are the same for all rows, sharings or not,
+  -- that have the same shares of the present parties
+  pub leans-on-present : (x y : Row) → ((j : ℕ) → 1 ≤ j → j ≤ h .n → isPresent present j ≡ true → at 0 x j ≡ at 0 y j)
+      → (value (settingWith present h) x ≡ value (settingWith present h) y) × (recorded (settingWith present h) x ≡ recorded (settingWith present h) y)
   -- of a sharing it is the secret, whoever is present
   pub secret-is : (x : Row) → Sharing (settingWith present h .p) (h .n) (h .t) x → value (settingWith present h) x ≡ secret (settingWith present h .p) (h .t) x
   -- request 4's sum, of those shares: it fits 64 bits where shares are below p, and its remainder by p is the value
@@ -54,9 +58,10 @@ pub record PresentRuns : Type 0 where
   -- a sheet is accepted with a set exactly where the set is permitted and the sheet is accepted with everyone present
   pub accepted : (present : ℕ) (s : List ℕ)
       → Accepted present s ↔ (Accepted (everyone (headerOf s .n)) s × PermittedSet (headerOf s .n) (headerOf s .t) present)
-  -- "tried after 3": 12 exactly where 1, 2 and 3 do not refuse and the set is not permitted, whatever else is wrong
-  pub twelve : (present : ℕ) (s : List ℕ)
-      → (sheetNumber present s ≡ 12) ↔ ((firstFailed (headerTests s) ≡ 0) × (PermittedSet (headerOf s .n) (headerOf s .t) present → ⊥))
+  -- "tried after 3 with place 0": a run answers 12 exactly where 1, 2 and 3 do not refuse and the set is not permitted, whatever else is wrong
+  pub twelve : (present : ℕ) (s log revealed : List ℕ)
+      → (run present s log revealed .number ≡ 12) ↔ ((firstFailed (headerTests s) ≡ 0) × (PermittedSet (headerOf s .n) (headerOf s .t) present → ⊥))
+  pub twelve-place : (present : ℕ) (s log revealed : List ℕ) → run present s log revealed .number ≡ 12 → run present s log revealed .place ≡ 0
   -- where 1, 2 or 3 refuses, the byte decides nothing
   pub header-refused : (b c : ℕ) (s log revealed : List ℕ) → firstFailed (headerTests s) ≢ 0 → run b s log revealed ≡ run c s log revealed
   -- "Program `table` takes everyone as present": it never answers 12, whatever the header says

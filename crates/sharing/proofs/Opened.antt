@@ -22,7 +22,7 @@ use Rattle.model.proofs.Polynomials.{positive}
 use Rattle.model.proofs.Presence.{openers-in, openers-distinct, presence}
 use Rattle.model.proofs.Sharings.{nodes-distinct}
 use Rattle.model.proofs.Weights.{weight-lt, weighted-value}
-use Rattle.sharing.specs.Settings.{settingOf, partiesOf, weightsOf, Opens, Fitting}
+use Rattle.sharing.specs.Settings.{settingOf, partiesOf, weightsOf, WorkedBy, Fitting}
 use Rattle.sharing.specs.declared.setting.Setting.{Setting}
 use Rattle.sharing.proofs.Presences.{bit-left}
 
@@ -61,7 +61,7 @@ module _ (S : Setting) (F : Fitting S) where
   abbrev xs : List ℕ
   xs = openers (S .n) (S .t) (S .opening .present)
 
-  abbrev O : Opens (S .p) (S .n) (S .t) (S .opening)
+  abbrev O : WorkedBy (S .p) (S .n) (S .t) (S .opening)
   O = F .opens
 
   pub point-in : (i : ℕ) → i < 4 → (1 ≤ getD (partiesOf (S .opening)) i 0) × (getD (partiesOf (S .opening)) i 0 ≤ 7)
@@ -110,10 +110,10 @@ module _ (S : Setting) (F : Fitting S) where
       (nodes-distinct xs (openers-distinct (S .n) (S .t) (S .opening .present)) (λ z m. omega (arith, openers-in (S .n) (S .t) (S .opening .present) z m .1, F .parties)))
 
 -- the number of a column in the record, by the bits that are left
-pub shown-at : (S : Paper.Setting) (x : List ℕ) (j : ℕ) {rest r : ℕ} → j < S .n → rest ≡ S .present / 2 ^ j → r ≡ cond (eqb (rest % 2) 1) (getD x j 0) (S .p)
+pub number-at : (S : Paper.Setting) (x : List ℕ) (j : ℕ) {rest r : ℕ} → j < S .n → rest ≡ S .present / 2 ^ j → r ≡ cond (eqb (rest % 2) 1) (getD x j 0) (S .p)
     → r ≡ getD (recorded S x) j 0
 unfolding recorded
-shown-at S x j h e q =
+number-at S x j h e q =
     q ∙ rw (e, ← (bit-left (S .present) j)) (sym (getD-tab (S .n) (λ k. cond (isPresent (S .present) (suc k)) (getD x k 0) (S .p)) j h))
 
 -- with everyone present they are the row's shares

@@ -23,7 +23,7 @@ use Rattle.model.proofs.Fields.{fields}
 use Rattle.model.proofs.Presence.{presence}
 use Rattle.model.specs.Presence.{bit, isPresent, presentIn, absentIn, everyone, openers, permittedSet, PermittedSet}
 use Rattle.model.specs.Sharing.{reciprocal, ratio, weight}
-use Rattle.sharing.specs.Settings.{LowestOf, Further, WeightsOf, partiesOf, weightsOf, Opens}
+use Rattle.sharing.specs.Settings.{LowestOf, Further, FirstWeights, partiesOf, weightsOf, WorkedBy}
 use Rattle.sharing.specs.declared.presence.Found.{Found}
 use Rattle.sharing.specs.declared.presence.Opening.{Opening}
 
@@ -205,7 +205,7 @@ module _ {p : ℕ} {parties : List ℕ} {e i : ℕ} {ws : List ℕ} (W : Weighin
         past = λ z n. getD-set-other ws i z w 0 (λ e. omega arith) ∙ W .past z (omega arith);
       }
 
-  pub weighing-end : e ≤ i → WeightsOf p parties e ws
+  pub weighing-end : e ≤ i → FirstWeights p parties e ws
   weighing-end k =
       let q : i ≡ e = omega (arith, W .done) in
       record {
@@ -252,12 +252,12 @@ four (a ∷ b ∷ c ∷ []) e = absurd (omega arith)
 four (a ∷ b ∷ c ∷ d ∷ []) e = refl
 four (a ∷ b ∷ c ∷ d ∷ x ∷ xs) e = absurd (omega arith)
 
-pub opens-by : {p n t b : ℕ} {x : Found} {ws : List ℕ} (o : Opening) → LowestOf n (suc t) b x → PermittedSet n t b → WeightsOf p (x .parties) (suc t) ws
-    → o .present ≡ b → partiesOf o ≡ x .parties → weightsOf o ≡ ws → Opens p n t o
+pub opens-by : {p n t b : ℕ} {x : Found} {ws : List ℕ} (o : Opening) → LowestOf n (suc t) b x → PermittedSet n t b → FirstWeights p (x .parties) (suc t) ws
+    → o .present ≡ b → partiesOf o ≡ x .parties → weightsOf o ≡ ws → WorkedBy p n t o
 opens-by {p} {n} {t} o R Q W eb ep ew =
     record {
       parties = ap (take (suc t)) ep ∙ worked-from R Q ∙ ap (openers n t) (sym eb);
-      weights = subst (λ (l : List ℕ). WeightsOf p l (suc t) (weightsOf o)) (sym ep) (subst (WeightsOf p _ (suc t)) (sym ew) W);
+      weights = subst (λ (l : List ℕ). FirstWeights p l (suc t) (weightsOf o)) (sym ep) (subst (FirstWeights p _ (suc t)) (sym ew) W);
       some = subst (λ (l : List ℕ). (i : ℕ) → i < 4 → 1 ≤ getD l i 0) (sym ep) (R .some);
       low = subst (Below 8) (sym ep) (R .low);
     }
@@ -268,14 +268,14 @@ everyone-may n t b h e q =
     let p = eqb-true b (everyone n) (sym e ∙ q) in
     rw p (sym (is-true (permittedSet n t (everyone n)) (presence .tested n t (everyone n) .1 (presence .all-permitted n t h))))
 
-pub opens-all : {p n t b : ℕ} {a : Bool} {ws : List ℕ} (o : Opening) → t ≤ 3 → t < n → a ≡ eqb b (everyone n) → a ≡ true → WeightsOf p (from 1 4) (suc t) ws
-    → o .present ≡ b → partiesOf o ≡ 1 ∷ 2 ∷ 3 ∷ 4 ∷ [] → weightsOf o ≡ ws → Opens p n t o
+pub opens-all : {p n t b : ℕ} {a : Bool} {ws : List ℕ} (o : Opening) → t ≤ 3 → t < n → a ≡ eqb b (everyone n) → a ≡ true → FirstWeights p (from 1 4) (suc t) ws
+    → o .present ≡ b → partiesOf o ≡ 1 ∷ 2 ∷ 3 ∷ 4 ∷ [] → weightsOf o ≡ ws → WorkedBy p n t o
 unfolding from
 opens-all {p} {n} {t} {b} o h k e q W eb ep ew =
     let all = eqb-true b (everyone n) (sym e ∙ q) in
     record {
       parties = ap (take (suc t)) ep ∙ first-all (suc t) (omega arith) ∙ sym (ap (openers n t) (eb ∙ all) ∙ presence .all-open n t k);
-      weights = subst (λ (l : List ℕ). WeightsOf p l (suc t) (weightsOf o)) (sym ep) (subst (WeightsOf p (1 ∷ 2 ∷ 3 ∷ 4 ∷ []) (suc t)) (sym ew) W);
+      weights = subst (λ (l : List ℕ). FirstWeights p l (suc t) (weightsOf o)) (sym ep) (subst (FirstWeights p (1 ∷ 2 ∷ 3 ∷ 4 ∷ []) (suc t)) (sym ew) W);
       some = subst (λ (l : List ℕ). (i : ℕ) → i < 4 → 1 ≤ getD l i 0) (sym ep) some;
       low = subst (Below 8) (sym ep) (below-cons (omega arith) (below-cons (omega arith) (below-cons (omega arith) (below-cons (omega arith) (below-nil 8)))));
     }

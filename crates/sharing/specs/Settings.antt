@@ -34,7 +34,7 @@ abbrev pub weightsAmong : ℕ → List ℕ → List ℕ
 weightsAmong p xs = map (weight p xs) xs
 
 -- in the first e places the weights of the first e parties, and 0 past them
-pub record WeightsOf (p : ℕ) (parties : List ℕ) (e : ℕ) (ws : List ℕ) : Type 0 where
+pub record FirstWeights (p : ℕ) (parties : List ℕ) (e : ℕ) (ws : List ℕ) : Type 0 where
   pub weights : take e ws ≡ weightsAmong p (take e parties)
   pub past : (i : ℕ) → e ≤ i → getD ws i 0 ≡ 0
 
@@ -46,9 +46,9 @@ abbrev pub weightsOf : Opening → List ℕ
 weightsOf x = x .first .weight ∷ x .second .weight ∷ x .third .weight ∷ x .fourth .weight ∷ []
 
 -- They are the lowest t + 1 present parties with their weights. What stands past them is a party too, and its weight is 0.
-pub record Opens (p n t : ℕ) (x : Opening) : Type 0 where
+pub record WorkedBy (p n t : ℕ) (x : Opening) : Type 0 where
   pub parties : take (suc t) (partiesOf x) ≡ openers n t (x .present)
-  pub weights : WeightsOf p (partiesOf x) (suc t) (weightsOf x)
+  pub weights : FirstWeights p (partiesOf x) (suc t) (weightsOf x)
   pub some : (i : ℕ) → i < 4 → 1 ≤ getD (partiesOf x) i 0
   pub low : Below 8 (partiesOf x)
 
@@ -59,4 +59,4 @@ pub record Fitting (S : Setting) : Type 0 where
   pub parties : S .n ≤ 7
   pub threshold : S .t ≤ 3
   pub bits : S .l ≤ 31
-  pub opens : Opens (S .p) (S .n) (S .t) (S .opening)
+  pub opens : WorkedBy (S .p) (S .n) (S .t) (S .opening)

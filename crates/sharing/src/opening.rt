@@ -25,7 +25,7 @@ fn term(point: Point, row: Row) -> u64
 }
 
 // The sum before reducing, of the shares of the lowest t + 1 present parties: each times its weight below p, added. Shares below p are asked for, since
-// the weights of other parties than 1 to t + 1 are any numbers below p. Products past these are 0.
+// the weights of other parties than 1 to t + 1 are any numbers below p, so that four products fit 64 bits. Products past the first t + 1 are 0.
 fn opened_sum(setting: Setting, row: Row) -> u64
     requires { ⌜ Fitting setting × Lists.Below (setting .p) (row .shares) ⌝ }
     ensures { λ r. ⌜ r ≡ Sharing.weighted (setting .p) (Presence.openers (setting .n) (setting .t) (setting .opening .present)) (Sharing.at 0 (row .shares)) ⌝ }
@@ -44,13 +44,13 @@ pub fn opened_value(setting: Setting, row: Row) -> u32
 }
 
 // What stands in the record for a share: "p itself stands for an absent share".
-fn shown(present: bool, share: u32, p: u32) -> u32
+fn record_number(present: bool, share: u32, p: u32) -> u32
     ensures { λ r. ⌜ r ≡ cond present share p ⌝ }
 {
     if present { share } else { p }
 }
 
-// The n numbers of an opening go to the list, from a place on. With everyone present they are the row's shares, which no test holds up.
+// The n numbers of an opening go to the list, from a place on. With everyone present they are the row's shares, copied without a test of each.
 pub fn put_opened(setting: Setting, list: &mut [u32], at: usize, row: Row)
     requires { ⌜ Fitting setting × (at + setting .n ≤ length (now list)) ⌝ }
     ensures { λ _. ⌜ now (list .exit) ≡ Lists.ontoAt at (Steps.recorded (settingOf setting) (row .shares)) (now (list .entry)) ⌝ }
@@ -72,7 +72,7 @@ fn put_marked(setting: Setting, list: &mut [u32], at: usize, row: Row)
     let mut rest = opening.present;
     let mut j = 0;
     while j < setting.n {
-        list[at + j] = shown(rest % 2 == 1, row.shares[j], setting.p);
+        list[at + j] = record_number(rest % 2 == 1, row.shares[j], setting.p);
         rest = rest / 2;
         j += 1;
     }

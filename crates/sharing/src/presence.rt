@@ -10,7 +10,7 @@ ghost use Rattle.algebra.specs.Ring.{mul};
 ghost use Rattle.model.specs.Fields as Fields;
 ghost use Rattle.model.specs.Presence as Presence;
 ghost use Rattle.model.specs.Sharing as Sharing;
-ghost use Rattle.sharing.specs.Settings.{LowestOf, Further, WeightsOf, partiesOf, weightsOf, Opens};
+ghost use Rattle.sharing.specs.Settings.{LowestOf, Further, FirstWeights, partiesOf, weightsOf, WorkedBy};
 use crate::secret;
 use field::arithmetic;
 use field::table;
@@ -22,7 +22,7 @@ pub struct Point {
 }
 
 // How a run works its openings: the byte that says who is present, and the lowest t + 1 present parties with their weights. Points past these have the
-// weight 0. They are no list, since a frame has them, and what is found of a sheet is an enum, which may hold no list.
+// weight 0. The points are four fields and not a list: a frame has them, what is found of a sheet is an enum with a frame, and an enum may hold no list.
 pub struct Opening {
     pub present: u32,
     pub first: Point,
@@ -123,7 +123,7 @@ pub fn lowest(n: usize, e: usize, present: u32) -> Found
     found
 }
 
-// Whether no bit beyond n is set and t + 1 parties are present.
+// Whether no bit beyond n is set and at least t + 1 parties are present. Everyone is the common case, and needs no search.
 pub fn permitted(n: usize, t: usize, present: u32) -> bool
     requires { ⌜ (n ≤ 7) × (t ≤ 3) × (t < n) ⌝ }
     ensures { λ r. ⌜ r ≡ Presence.permittedSet n t present ⌝ }
@@ -185,7 +185,7 @@ fn weight_among(field: usize, parties: [usize; 4], e: usize, x: usize) -> u32
 
 fn weights_among(field: usize, parties: [usize; 4], e: usize) -> [u32; 4]
     requires { ⌜ Fields.InUse field × (e ≤ 4) × Lists.Below 8 parties ⌝ }
-    ensures { λ r. ⌜ WeightsOf (Fields.modulus field) parties e r ⌝ }
+    ensures { λ r. ⌜ FirstWeights (Fields.modulus field) parties e r ⌝ }
 {
     let mut weights = [0u32; 4];
     let mut i = 0;
@@ -199,7 +199,7 @@ fn weights_among(field: usize, parties: [usize; 4], e: usize) -> [u32; 4]
 // The weights of parties 1 to e, by which recovery goes too.
 fn first_weights(p: u32, e: usize) -> [u32; 4]
     requires { ⌜ Fields.Modulus p × (e ≤ 4) ⌝ }
-    ensures { λ r. ⌜ WeightsOf p (from 1 4) e r ⌝ }
+    ensures { λ r. ⌜ FirstWeights p (from 1 4) e r ⌝ }
 {
     let mut weights = [0u32; 4];
     let mut i = 0;
@@ -243,7 +243,7 @@ fn points(present: u32, parties: [usize; 4], weights: [u32; 4]) -> Opening
 // How openings are worked with these parties present, which is found once in a run. With everyone present no weight is worked out.
 pub fn opening_of(field: usize, n: usize, t: usize, present: u32) -> Opening
     requires { ⌜ Fields.InUse field × Fields.Parties n t × Presence.PermittedSet n t present ⌝ }
-    ensures { λ r. ⌜ (r .present ≡ present) × Opens (Fields.modulus field) n t r ⌝ }
+    ensures { λ r. ⌜ (r .present ≡ present) × WorkedBy (Fields.modulus field) n t r ⌝ }
 {
     let e = t + 1;
     if all_present(n, present) {

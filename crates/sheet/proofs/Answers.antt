@@ -16,7 +16,7 @@ use Rattle.model.proofs.Presence.{presence}
 use Rattle.model.proofs.Lengths.{header-numbered, header-read}
 use Rattle.model.proofs.Trying.{numbered, holding, all-hold, front-passes, passes, fails, nothing-left, first-decide, others-decide, told}
 use Rattle.model.specs.Deal.{Setting, Row, Deal}
-use Rattle.sharing.specs.Settings.{Opens, Fitting}
+use Rattle.sharing.specs.Settings.{WorkedBy, Fitting}
 use Rattle.sheet.specs.Framed.{settingFrom, settingIn, inputsOf, dealOf, Headed, Presented, RunHeaded, Whole, RunFramed}
 use Rattle.sheet.specs.Reading.{runTests, Reads}
 use Rattle.sheet.proofs.Headers.{end-is, rows-are, setting-is, inputs-are, deal-is, modulus-in, bits-in}
@@ -88,7 +88,7 @@ module _ {h : Header} {f : Frame} (H : Headed h f) (s : List ℕ) where
   rows-told g count k e q = rw (rows-are H s) (told (rw k at e) q)
 
   -- what is asked of a setting
-  pub setting-fits : Opens (f .p) (f .n) (f .t) (f .opening) → Fitting (settingFrom f)
+  pub setting-fits : WorkedBy (f .p) (f .n) (f .t) (f .opening) → Fitting (settingFrom f)
   setting-fits O = record { modulus = modulus-in H; parties = H .parties .most; threshold = omega (arith, H .parties); bits = bits-in H; opens = O }
 
 -- a sheet of the length that its header implies
@@ -160,7 +160,7 @@ module _ (present : ℕ) (s : List ℕ) where
       H : RunHeaded present (headerOf s) f
       H = frame-read (runTests present s) (RunHeaded present (headerOf s)) A e
 
-      pub body-asked : Headed (headerOf s) f × Opens (f .p) (f .n) (f .t) (f .opening)
+      pub body-asked : Headed (headerOf s) f × WorkedBy (f .p) (f .n) (f .t) (f .opening)
       body-asked = (H .0, H .1 .opens)
 
       module _ {n : ℕ} (k : n ≡ firstFailed (body (settingIn f) (inputsOf s f) (dealOf s f))) where

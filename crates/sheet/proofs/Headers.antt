@@ -17,7 +17,7 @@ use Rattle.model.specs.Fields.{Modulus, modulus, bits, largestK}
 use Rattle.model.specs.Sheet.{Header, headerOf, headerSize, maskBits, largestIn, settingWith, limits, impliedLength, inputIn, dealIn, dealRows, rowsAt, Permitted}
 use Rattle.model.proofs.SheetDeal.{all-rows}
 use Rattle.model.proofs.Lengths.{header-field, mask-bits-most, fitting, length-most}
-use Rattle.sharing.specs.Settings.{Opens}
+use Rattle.sharing.specs.Settings.{WorkedBy}
 use Rattle.sheet.specs.Framed.{settingIn, inputsOf, dealOf, Headed, Presented}
 use Rattle.sharing.specs.declared.presence.Opening.{Opening}
 use Rattle.sheet.specs.declared.frame.Frame.{Frame}
@@ -106,7 +106,7 @@ headed-with o H =
       triples-place = H .triples-place;
     }
 
-pub presented : {h : Header} {f : Frame} {present : ℕ} {o : Opening} → Headed h f → PermittedSet (h .n) (h .t) present → (o .present ≡ present) × Opens (modulus (h .field)) (h .n) (h .t) o
+pub presented : {h : Header} {f : Frame} {present : ℕ} {o : Opening} → Headed h f → PermittedSet (h .n) (h .t) present → (o .present ≡ present) × WorkedBy (modulus (h .field)) (h .n) (h .t) o
     → (f′ : Frame) → f′ .p ≡ f .p → f′ .n ≡ f .n → f′ .t ≡ f .t → f′ .opening ≡ o → Presented present f′
 presented {h} {f} {present} {o} H Q O f′ ep en et eo =
     record {

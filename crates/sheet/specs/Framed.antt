@@ -8,7 +8,7 @@ use Rattle.model.specs.Fields.{InUse, Parties}
 use Rattle.model.specs.Presence.{PermittedSet}
 use Rattle.model.specs.Deal.{Setting, Row, Deal}
 use Rattle.model.specs.Sheet.{Header, headerOf, headerSize, maskBits, largestIn, settingOf, rowsAt, masksFrom, triplesFrom}
-use Rattle.sharing.specs.Settings.{Opens}
+use Rattle.sharing.specs.Settings.{WorkedBy}
 use Rattle.sharing.specs.declared.setting.Setting as Declared
 use Rattle.sheet.specs.declared.frame.Frame.{Frame}
 
@@ -54,8 +54,9 @@ pub record Headed (h : Header) (f : Frame) : Type 0 where
 pub record Presented (present : ℕ) (f : Frame) : Type 0 where
   pub present-is : f .opening .present ≡ present
   pub permitted : PermittedSet (f .n) (f .t) present
-  pub opens : Opens (f .p) (f .n) (f .t) (f .opening)
+  pub opens : WorkedBy (f .p) (f .n) (f .t) (f .opening)
 
+-- the frame of a header for such a run
 abbrev pub RunHeaded : ℕ → Header → Frame → Type 0
 RunHeaded present h f = Headed h f × Presented present f
 

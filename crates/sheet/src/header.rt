@@ -64,7 +64,7 @@ fn within_limits(h: Header) -> bool
     h.script <= 1024
 }
 
-// Whether 12 does not refuse: no bit beyond n is set, and t + 1 parties are present.
+// Whether 12 does not refuse: no bit beyond n is set, and at least t + 1 parties are present.
 fn may_run(h: Header, present: u32) -> bool
     requires { ⌜ Fields.Parties (told h .n) (told h .t) ⌝ }
     ensures { λ r. ⌜ r ≡ permittedSet (told h .n) (told h .t) present ⌝ }

@@ -10,7 +10,7 @@ ghost use lib.Dec.{eqb};
 ghost use lib.ListN.{length};
 ghost use Rattle.model.specs.Refusing.{firstFailed};
 ghost use Rattle.model.specs.Sheet as Sheet;
-ghost use Rattle.sharing.specs.Settings.{Opens};
+ghost use Rattle.sharing.specs.Settings.{WorkedBy};
 ghost use Rattle.sheet.specs.Framed.{settingIn, inputsOf, dealOf, Headed, Whole, RunFramed};
 ghost use Rattle.sheet.specs.Reading.{Reads};
 use crate::frame::Frame;
@@ -42,7 +42,7 @@ pub fn has_implied_length(s: &[u8], f: Frame) -> bool
 
 // 4 for the sheet's length, then 5 to 8, or 0.
 fn body_number(s: &[u8], f: Frame) -> u32
-    requires { ⌜ Headed (Sheet.headerOf (now s)) f × Opens (f .p) (f .n) (f .t) (f .opening) ⌝ }
+    requires { ⌜ Headed (Sheet.headerOf (now s)) f × WorkedBy (f .p) (f .n) (f .t) (f .opening) ⌝ }
     ensures { λ r. ⌜ r ≡ firstFailed (Sheet.lengthTests (Sheet.headerOf (now (s .entry))) (now (s .entry)) ++ Sheet.rowTests (settingIn f) (inputsOf (now (s .entry)) f) (dealOf (now (s .entry)) f)) ⌝ }
 {
     if has_implied_length(s, f) {
@@ -54,7 +54,7 @@ fn body_number(s: &[u8], f: Frame) -> u32
 
 // 5 to 8, or 0: "each over the whole sheet before the next".
 fn rows_number(s: &[u8], f: Frame) -> u32
-    requires { ⌜ Headed (Sheet.headerOf (now s)) f × Opens (f .p) (f .n) (f .t) (f .opening) × Whole (now s) f ⌝ }
+    requires { ⌜ Headed (Sheet.headerOf (now s)) f × WorkedBy (f .p) (f .n) (f .t) (f .opening) × Whole (now s) f ⌝ }
     ensures { λ r. ⌜ r ≡ firstFailed (Sheet.rowTests (settingIn f) (inputsOf (now (s .entry)) f) (dealOf (now (s .entry)) f)) ⌝ }
 {
     let opening = f.opening;

@@ -6,7 +6,7 @@ use Rattle.algebra.proofs.Lists.{WritingAt, writing-at-start, writing-at-more, 
 use Rattle.model.specs.Steps.{recorded}
 use Rattle.model.proofs.Written.{length-recorded}
 use Rattle.sharing.specs.Settings.{settingOf}
-use Rattle.sharing.proofs.Opened.{shown-at}
+use Rattle.sharing.proofs.Opened.{number-at}
 use Rattle.sharing.proofs.Presences.{shifted}
 use borrow.Author.Needs.{needs}
 use lib.Seq.{take-all}
@@ -39,7 +39,7 @@ loop-again c =
     let l = c .before .before .before .before in
     let s = l .before .before .before in (
       writing-at-more (l .loop .inv .0) (omega (arith, length-recorded (settingOf (s .args .setting)) (s .args .t4 .shares))) (omega arith) (omega arith)
-          (shown-at (settingOf (s .args .setting)) (s .args .t4 .shares) (l .loop .j) (omega arith) (l .loop .inv .1) (c .shown .ensures)),
+          (number-at (settingOf (s .args .setting)) (s .args .t4 .shares) (l .loop .j) (omega arith) (l .loop .inv .1) (c .record-number .ensures)),
       rw (l .loop .inv .1, add-one) (shifted _ (l .loop .j)),
     )
 

@@ -8,7 +8,7 @@ use Rattle.model.specs.Fields.{InUse, Parties, modulus, bits}
 use Rattle.model.specs.Presence.{everyone, PermittedSet}
 use Rattle.model.proofs.Fields.{below-four, fields}
 use Rattle.model.proofs.Presence.{all-permitted}
-use Rattle.sharing.specs.Settings.{Opens, Fitting}
+use Rattle.sharing.specs.Settings.{WorkedBy, Fitting}
 use Rattle.sharing.specs.declared.presence.Opening.{Opening}
 use Rattle.step_cases.proofs.step.setting_of.Statement.{statement}
 use Rattle.step_cases.proofs.step.setting_of.Tie as tie
@@ -16,7 +16,7 @@ use Rattle.step_cases.proofs.step.setting_of.Tie as tie
 all : (n t : ℕ) {a b : ℕ} → Parties n t → a ≡ everyone n → b ≡ a → PermittedSet n t b
 all n t P e q = subst (PermittedSet n t) (sym (q ∙ e)) (all-permitted n t (omega (arith, P)))
 
-fits : (f n t : ℕ) {p l : ℕ} {o : Opening} → InUse f → Parties n t → p ≡ modulus f → l ≡ bits f → Opens (modulus f) n t o
+fits : (f n t : ℕ) {p l : ℕ} {o : Opening} → InUse f → Parties n t → p ≡ modulus f → l ≡ bits f → WorkedBy (modulus f) n t o
     → Fitting (record { p = p; l = l; n = n; t = t; opening = o })
 fits f n t u P ep el O =
     record {
