@@ -40,7 +40,7 @@ extern "C" {
 /* What every function answers: 0, or the first of the others that applies. 12 comes after 3 and before 4. */
 #define JUNDRETHOL_DONE 0
 
-/* The input is refused, or the output for it, and nothing is run or turned. */
+/* The input is refused, or the output for it, or who is present, and nothing is run or turned. */
 #define JUNDRETHOL_NO_HEADER 1     /* the sheet or column form has fewer than 11 bytes */
 #define JUNDRETHOL_BAD_FIELD 2     /* the field is over 3 */
 #define JUNDRETHOL_BAD_PARTIES 3   /* n is not from 3 to 7, t is below 1, or 2t + 1 is over n */
@@ -93,10 +93,10 @@ extern "C" {
 
 /* Runs a sheet.
  *
- * present    says which parties are present: bit j - 1, counted from the lowest, says that party j is. Everyone is (1 << n) - 1. An opened value is
- *            worked from the shares of the lowest t + 1 present parties. The sheet has the shares of absent parties all the same, and their
- *            columns are worked like the others. The answer, the place, values, registers, marks and counts are the same for every set that 12
- *            does not refuse.
+ * present    says which parties are present: bit j - 1, counted from the lowest, says that party j is. Everyone is (1 << n) - 1 where the sheet's
+ *            n is 3 to 7; where a sheet has no such n, the answer is 1, 2 or 3 whatever present is. An opened value is worked from the shares of
+ *            the lowest t + 1 present parties. The sheet has the shares of absent parties all the same, and their columns are worked like the
+ *            others. The answer, the place, values, registers, marks and counts are the same for every set that 12 does not refuse.
  * record     gets n numbers for each opening, party 1's first, in order: counts[JUNDRETHOL_COUNT_OPENINGS] times n numbers. They are the shares
  *            that are opened; p itself, which is no share, stands for an absent one.
  * revealed   gets the values of the finished REVEALs in order: counts[JUNDRETHOL_COUNT_REVEALED] numbers.

@@ -18,11 +18,11 @@ use Rattle.model.specs.Trees.{spelled, comparisonFrom, comparison, remainder, f
 use Rattle.model.specs.Steps.{Deal, plus, minus, times, constant, value, recorded, byRows}
 use Rattle.model.specs.Script.{LOAD, REVEAL, byteSays, allPass, numberAt, readingAt, scriptFrom, scriptOf}
 use Rattle.model.specs.Costs.{costBy}
-use Rattle.model.specs.Sheet.{headerOf, headerSize, maskBits, largestIn, limits, impliedLength, scriptIn, rowsAt, masksFrom, triplesFrom, inputIn, dealIn, all, maskRows, tripleRows, spell, secrets, goodMask, goodTriple, headerTests, presentTests, limitTests, lengthTests, rowTests, sheetTests, bytesOf, shareBytes, rowBytes, headerBytes, sheetOf}
+use Rattle.model.specs.Sheet.{headerOf, headerSize, maskBits, largestIn, limits, impliedLength, scriptIn, rowsAt, masksFrom, triplesFrom, inputIn, dealIn, all, maskRows, tripleRows, spell, secrets, goodMask, goodTriple, headerTests, presentTests, limitTests, lengthTests, rowTests, sheetTests, sheetNumber, bytesOf, shareBytes, rowBytes, headerBytes, sheetOf}
 use Rattle.model.specs.Commands.{command, throughLines}
 use Rattle.model.specs.Run.{allSet, marked, check, pay, runLines, nothingSpent, start, written, outcome, runScript, stopOf, run}
 use Rattle.figures.specs.Witness.{line}
-use Rattle.model.specs.Secrecy.{end, row as and-row, WellFormed, Twins, runOn}
+use Rattle.model.specs.Secrecy.{end, row as and-row, WellFormed, Twins, revealedBy, runOn}
 use Rattle.figures.specs.TwinSheets.{sheet, sharedOne, sharedThree, lines, plain, NotEmptyWith, NotEmpty, TooMuch}
 use Rattle.figures.proofs.Examples.{one-party}
 
@@ -31,80 +31,43 @@ agree : Agree (2 ∷ []) sharedOne sharedThree
 unfolding row tab
 agree = record { same = λ z m. rw (List·Memᴰ·eq-of-singleton m) }
 
-all-present : NotEmptyWith (everyone 3)
+-- What does not depend on who is present is computed once.
+with-byte : {b : ℕ} → sheetNumber b (sheet sharedOne) ≡ 0 → sheetNumber b (sheet sharedThree) ≡ 0
+    → revealedBy b (sheet sharedOne) 63 1 ≡ revealedBy b (sheet sharedThree) 63 1 → revealedBy b (sheet sharedOne) 63 1 ≡ 1 ∷ []
+    → stopOf b (sheet sharedOne) 63 1 .number ≡ 0 → stopOf b (sheet sharedThree) 63 1 .number ≡ 0
+    → stopOf b (sheet sharedOne) 62 1 .number ≡ 25 → stopOf b (sheet sharedThree) 62 1 .number ≡ 25
+    → revealedBy b (sheet sharedOne) 62 1 ≡ revealedBy b (sheet sharedThree) 62 1 → NotEmptyWith b
 unfolding add sub mul allBelow from tab row modulus bits largestK inUse fieldTests settingTests inverse inversePowerOf2 parties eval share newton reciprocal slope interpolate recover secret sameList isSharing number rowAt plus minus times constant value bit presentIn absentIn everyone openers valueFrom byRows comparisonFrom comparison spelled remainder floor byteSays allPass numberAt readingAt scriptFrom scriptOf costBy headerOf headerSize maskBits largestIn limits impliedLength scriptIn rowsAt masksFrom triplesFrom inputIn dealIn all maskRows tripleRows spell secrets goodMask goodTriple firstFailed headerTests limitTests lengthTests rowTests sheetTests bytesOf shareBytes rowBytes headerBytes sheetOf allSet marked check pay command throughLines runLines nothingSpent start runScript stopOf sheet lines permittedSet presentTests
-all-present =
+with-byte n n′ v r e e′ f f′ v′ =
     record {
       twins =
           record {
-            first = record { lines = lines; end = 18; number = refl; script = refl };
-            second = record { lines = lines; end = 18; number = refl; script = refl };
+            first = record { lines = lines; end = 18; number = n; script = refl };
+            second = record { lines = lines; end = 18; number = n′; script = refl };
             header = refl;
             script = refl;
             parties = one-party 2 (omega arith) (omega arith);
             inputs = and-row agree end;
           };
-      revealed = refl;
-      reveals = refl;
-      first-ends = refl;
-      second-ends = refl;
-      first-refused = refl;
-      second-refused = refl;
-      refused-revealed = refl;
-      first-secret = refl;
-      second-secret = refl;
-    }
-
-one-absent : NotEmptyWith 6
-unfolding add sub mul allBelow from tab row modulus bits largestK inUse fieldTests settingTests inverse inversePowerOf2 parties eval share newton reciprocal slope interpolate recover secret sameList isSharing number rowAt plus minus times constant value bit presentIn absentIn everyone openers valueFrom byRows comparisonFrom comparison spelled remainder floor byteSays allPass numberAt readingAt scriptFrom scriptOf costBy headerOf headerSize maskBits largestIn limits impliedLength scriptIn rowsAt masksFrom triplesFrom inputIn dealIn all maskRows tripleRows spell secrets goodMask goodTriple firstFailed headerTests limitTests lengthTests rowTests sheetTests bytesOf shareBytes rowBytes headerBytes sheetOf allSet marked check pay command throughLines runLines nothingSpent start runScript stopOf sheet lines permittedSet presentTests
-one-absent =
-    record {
-      twins =
-          record {
-            first = record { lines = lines; end = 18; number = refl; script = refl };
-            second = record { lines = lines; end = 18; number = refl; script = refl };
-            header = refl;
-            script = refl;
-            parties = one-party 2 (omega arith) (omega arith);
-            inputs = and-row agree end;
-          };
-      revealed = refl;
-      reveals = refl;
-      first-ends = refl;
-      second-ends = refl;
-      first-refused = refl;
-      second-refused = refl;
-      refused-revealed = refl;
-      first-secret = refl;
-      second-secret = refl;
-    }
-
-set-absent : NotEmptyWith 5
-unfolding add sub mul allBelow from tab row modulus bits largestK inUse fieldTests settingTests inverse inversePowerOf2 parties eval share newton reciprocal slope interpolate recover secret sameList isSharing number rowAt plus minus times constant value bit presentIn absentIn everyone openers valueFrom byRows comparisonFrom comparison spelled remainder floor byteSays allPass numberAt readingAt scriptFrom scriptOf costBy headerOf headerSize maskBits largestIn limits impliedLength scriptIn rowsAt masksFrom triplesFrom inputIn dealIn all maskRows tripleRows spell secrets goodMask goodTriple firstFailed headerTests limitTests lengthTests rowTests sheetTests bytesOf shareBytes rowBytes headerBytes sheetOf allSet marked check pay command throughLines runLines nothingSpent start runScript stopOf sheet lines permittedSet presentTests
-set-absent =
-    record {
-      twins =
-          record {
-            first = record { lines = lines; end = 18; number = refl; script = refl };
-            second = record { lines = lines; end = 18; number = refl; script = refl };
-            header = refl;
-            script = refl;
-            parties = one-party 2 (omega arith) (omega arith);
-            inputs = and-row agree end;
-          };
-      revealed = refl;
-      reveals = refl;
-      first-ends = refl;
-      second-ends = refl;
-      first-refused = refl;
-      second-refused = refl;
-      refused-revealed = refl;
+      revealed = v;
+      reveals = r;
+      first-ends = e;
+      second-ends = e′;
+      first-refused = f;
+      second-refused = f′;
+      refused-revealed = v′;
       first-secret = refl;
       second-secret = refl;
     }
 
 pub not-empty : NotEmpty
-not-empty = record { all-present = all-present; one-absent = one-absent; set-absent = set-absent }
+unfolding add sub mul allBelow from tab row modulus bits largestK inUse fieldTests settingTests inverse inversePowerOf2 parties eval share newton reciprocal slope interpolate recover secret sameList isSharing number rowAt plus minus times constant value bit presentIn absentIn everyone openers valueFrom byRows comparisonFrom comparison spelled remainder floor byteSays allPass numberAt readingAt scriptFrom scriptOf costBy headerOf headerSize maskBits largestIn limits impliedLength scriptIn rowsAt masksFrom triplesFrom inputIn dealIn all maskRows tripleRows spell secrets goodMask goodTriple firstFailed headerTests limitTests lengthTests rowTests sheetTests bytesOf shareBytes rowBytes headerBytes sheetOf allSet marked check pay command throughLines runLines nothingSpent start runScript stopOf sheet lines permittedSet presentTests
+not-empty =
+    record {
+      all-present = with-byte refl refl refl refl refl refl refl refl refl;
+      one-absent = with-byte refl refl refl refl refl refl refl refl refl;
+      set-absent = with-byte refl refl refl refl refl refl refl refl refl;
+    }
 
 -- the deal of nothing, and that a deal of no masks and no triples is it
 nothing : Deal
