@@ -23,7 +23,7 @@ use Rattle.model.proofs.Trying.{upTo, number-most, given-refused, passes, fails
 use Rattle.model.proofs.Lengths.{length-most}
 use Rattle.model.proofs.Acceptance.{sound}
 use Rattle.model.proofs.ColumnForms.{every-form}
-use Rattle.figures.specs.Room.{largestSheet, largestHeader, longNumber, longTurned, LargestSheet}
+use Rattle.figures.specs.Largest.{largestSheet, largestHeader, longNumber, longTurned, LargestSheet}
 
 most : (h : Header) → Permitted h → impliedLength h ≤ largestSheet
 most h P = length-most h P

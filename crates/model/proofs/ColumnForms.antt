@@ -71,7 +71,7 @@ unfolding shapeTests
 some-party s w = let R = header-read s refl (front-passes (headerTests s) _ (header-numbered s) w) in omega (arith, R .people .least)
 
 -- and the length is the header's: header and script, and n shares for each row
-shaped-length : (s : List ℕ) → Shaped s → length s ≡ inputsAt (headerOf s) + 4 * headerOf s .n * rowCount (headerOf s)
+pub shaped-length : (s : List ℕ) → Shaped s → length s ≡ inputsAt (headerOf s) + 4 * headerOf s .n * rowCount (headerOf s)
 unfolding shapeTests limitTests lengthTests numbered holding
 shaped-length s w =
     let h = headerOf s in

@@ -17,12 +17,14 @@ use Rattle.model.proofs.ReadsOnly.{reads-only}
 use Rattle.model.proofs.Exactness.{exactness}
 use Rattle.model.proofs.Balance.{balance}
 use Rattle.model.proofs.Refusals.{numbers, nothing-run}
+use Rattle.model.proofs.Buffers.{no-run-outgrows, all-held}
 use Rattle.model.proofs.Secrecy.{secrecy}
 use Rattle.model.proofs.RealRuns.{real-runs}
 use Rattle.model.proofs.PresentRuns.{present-runs}
 use Rattle.model.proofs.CallReading.{reads}
 use Rattle.model.proofs.CallLists.{call-lists}
 use Rattle.model.proofs.ColumnForms.{every-form}
+use Rattle.model.proofs.Forecasts.{forecasts}
 
 pub laws : Laws
 laws =
@@ -50,10 +52,13 @@ laws =
       balance = balance;
       numbers = numbers;
       nothing-run = nothing-run;
+      no-run-outgrows = no-run-outgrows;
+      all-held = all-held;
       secrecy = secrecy;
       real-runs = real-runs;
       present-runs = present-runs;
       reads = reads;
       call-lists = call-lists;
       column-forms = every-form;
+      forecasts = forecasts;
     }

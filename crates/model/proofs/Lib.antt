@@ -48,6 +48,7 @@ pub mod Formulas
 pub mod Performed
 pub mod Exactness
 pub mod Refusals
+pub mod Buffers
 pub mod PresentTests
 pub mod Agreeing
 pub mod Partners
@@ -68,5 +69,8 @@ pub mod CallLists
 pub mod Transposing
 pub mod ColumnParts
 pub mod ColumnForms
+pub mod Filled
+pub mod Foreseeing
+pub mod Forecasts
 pub mod Laws
 pub mod Cases

@@ -58,7 +58,7 @@ module _ {p n t : ℕ} (M : Modulus p) (P : Parties n t) where
         small = λ j k. rw (s .is, row-at n _ j k) (omega (arith, eval-lt (positive M) (s .poly) (suc j), M .word));
       }
 
-  low-shares : (x : Row) → Sharing p n t x → T (allBelow p (take n x))
+  pub low-shares : (x : Row) → Sharing p n t x → T (allBelow p (take n x))
   unfolding share
   low-shares x s =
       all-below p (take n x) .1

@@ -1,5 +1,5 @@
--- The forms of the rows in SheetCases, ScriptCases, RunCases, MaskCases, PresentCases, EntryCases, CallCases and ColumnCases: what the definitions give, and what
--- the reference answers by paper and requests.
+-- The forms of the rows in SheetCases, ScriptCases, RunCases, MaskCases, PresentCases, EntryCases, CallCases, ColumnCases and ForecastCases: what the definitions
+-- give, and what the reference answers by paper and requests.
 -- Assumes nothing.
 use mathlib.Core.Path.{_≡_}
 use mathlib.Core.Bool.{Bool, true, false, cond}
@@ -17,6 +17,7 @@ use Rattle.model.specs.Counts.{listed}
 use Rattle.model.specs.Run.{Outcome, run}
 use Rattle.model.specs.Calls.{Imported, imported}
 use Rattle.model.specs.Columns.{columnForm, sheetForm, turnNumber, outputLeft}
+use Rattle.model.specs.Forecast.{Forecast, forecast}
 
 -- a register that is set, its number before its cells; one that is unset is left out where its cells are 0
 abbrev pub oneSeen : ℕ → Bool → Row → List (List ℕ)
@@ -134,3 +135,10 @@ asColumns = turned columnForm
 
 abbrev pub asSheet : List ℕ → ℕ → ℕ → List ℕ → Entry
 asSheet = turned sheetForm
+
+-- a forecast of a header and script: number and place
+abbrev pub ForecastCase : Type 0
+ForecastCase = Told Forecast
+
+abbrev pub foretold : List ℕ → ℕ → ℕ → ForecastCase
+foretold head number place = record { computed = forecast head; told = record { number = number; place = place } }

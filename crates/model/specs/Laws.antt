@@ -12,11 +12,13 @@ use Rattle.model.specs.Making.{Making}
 use Rattle.model.specs.ReadsOnly.{ReadsOnly}
 use Rattle.model.specs.Exactness.{Exactness, Balance}
 use Rattle.model.specs.Refusals.{Numbers, NothingRun}
+use Rattle.model.specs.Buffers.{NoRunOutgrows, AllHeld}
 use Rattle.model.specs.Secrecy.{Secrecy}
 use Rattle.model.specs.RealRuns.{RealRuns}
 use Rattle.model.specs.PresentRuns.{PresentRuns}
 use Rattle.model.specs.CallLists.{Reads, CallLists}
 use Rattle.model.specs.ColumnForms.{ColumnForms}
+use Rattle.model.specs.Forecasts.{Forecasts}
 
 pub record Laws : Type 0 where
   pub fields-tested : FieldsTested
@@ -42,9 +44,12 @@ pub record Laws : Type 0 where
   pub balance : Balance
   pub numbers : Numbers
   pub nothing-run : NothingRun
+  pub no-run-outgrows : NoRunOutgrows
+  pub all-held : AllHeld
   pub secrecy : Secrecy
   pub real-runs : RealRuns
   pub present-runs : PresentRuns
   pub reads : Reads
   pub call-lists : CallLists
   pub column-forms : ColumnForms
+  pub forecasts : Forecasts

@@ -15,6 +15,7 @@ pub mod Costs
 pub mod Checks
 pub mod Commands
 pub mod Run
+pub mod Buffers
 pub mod Parts
 pub mod Plain
 pub mod Formulas
@@ -32,6 +33,8 @@ pub mod Calls
 pub mod CallLists
 pub mod Columns
 pub mod ColumnForms
+pub mod Forecast
+pub mod Forecasts
 pub mod Laws
 pub mod CaseForms
 pub mod SheetCases

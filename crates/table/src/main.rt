@@ -4,7 +4,8 @@ ghost use Prim.Native.Nat.{_*_, _≤_, _<_};
 ghost use lib.ListN.{length};
 ghost use Rattle.model.specs.Sheet as Sheet;
 ghost use Rattle.model.specs.Refusals.{isRun};
-ghost use Rattle.figures.specs.Room.{largestSheet, recordLength, revealedLength};
+ghost use Rattle.model.specs.Buffers.{recordLength, revealedLength};
+ghost use Rattle.figures.specs.Largest.{largestSheet};
 ghost use Rattle.machine.specs.Answers.{outcomeOf};
 ghost use Rattle.table.specs.Ample.{Everyone, Ample};
 use costs::counts::Counts;
@@ -34,7 +35,7 @@ fn main() {
 }
 
 // The bytes that were read. An input that is longer than what is read is longer than the largest sheet too, so that its first bytes have the whole
-// input's answer: `cut` in crates/figures/specs/Room.antt.
+// input's answer: `cut` in crates/figures/specs/Largest.antt.
 fn run_read(input: &[u8], got: usize)
     requires { ⌜ (largestSheet < length (now input)) × (got ≤ length (now input)) ⌝ }
 {

@@ -8,9 +8,9 @@ use lib.ListN.{length}
 use Rattle.model.specs.Presence.{everyone}
 use Rattle.model.specs.Sheet.{headerOf}
 use Rattle.model.specs.Run.{Outcome, run}
+use Rattle.model.specs.Buffers.{recordLength, revealedLength}
 use Rattle.model.proofs.PresentRuns.{present-runs}
-use Rattle.figures.specs.Room.{recordLength, revealedLength}
-use Rattle.figures.proofs.Room.{no-run-outgrows, all-held}
+use Rattle.model.proofs.Buffers.{no-run-outgrows, all-held}
 use Rattle.table.specs.Ample.{Everyone, Ample}
 use Rattle.table.proofs.run_ample.Statement.{statement}
 use Rattle.table.proofs.run_ample.Tie as tie

@@ -1,10 +1,9 @@
--- The paper, "The sheet" and "Figures to check": the largest sheet, and that what program table lends and reads is enough for every sheet.
+-- The paper, "The sheet" and "Figures to check": the largest sheet, and that what program table reads is enough for every sheet.
 -- Assumes nothing.
 use mathlib.Core.Path.{_≡_}
-use mathlib.Core.Logic.{_≢_}
 use mathlib.Core.Bool.{false}
 use mathlib.Core.List.{List, [], _∷_}
-use Prim.Native.Nat.{ℕ, suc, _*_, _≤_, _<_}
+use Prim.Native.Nat.{ℕ, suc, _≤_, _<_}
 use lib.ListN.{length, take}
 use Rattle.model.specs.Fields.{inUse, parties}
 use Rattle.model.specs.Presence.{permittedSet}
@@ -13,26 +12,6 @@ use Rattle.model.specs.Sheet.{Header, headerOf, impliedLength, Permitted}
 use Rattle.model.specs.Run.{run}
 use Rattle.model.specs.Columns.{turnNumber}
 use Rattle.model.specs.Exactness.{Accepted}
-
--- "The program lends a record of 10,850 numbers (7 shares of at most 1,024 + 16 + 510 openings) and a revealed list of 511"
-abbrev pub recordLength : ℕ
-recordLength = 10850
-
-abbrev pub revealedLength : ℕ
-revealedLength = 511
-
--- "which no run outgrows, so 25 and 26 come only from the library." This holds for longer buffers too.
-abbrev pub NoRunOutgrows : Type 0
-NoRunOutgrows =
-    (present : ℕ) (sheet log revealed : List ℕ) → recordLength ≤ length log → revealedLength ≤ length revealed
-    → (run present sheet log revealed .number ≢ 25) × (run present sheet log revealed .number ≢ 26)
-
--- "each opened line the shares of parties 1 to n; each revealed line the field value": the buffers hold them all, whatever their lengths
-abbrev pub AllHeld : Type 0
-AllHeld =
-    (present : ℕ) (sheet log revealed : List ℕ)
-    → let o = run present sheet log revealed in
-    (o .counts .openings * headerOf sheet .n ≤ length log) × (o .counts .revealed ≤ length revealed)
 
 -- "The largest sheet is 59,723 bytes."
 abbrev pub largestSheet : ℕ

@@ -1,0 +1,307 @@
+-- The statements of specs/Forecasts: a sheet's head has the sheet's header and script, so its forecast ends as the run does.
+-- Assumes nothing.
+use mathlib.Core.Path.{_≡_, refl, sym, ap, subst, _∙_}
+use mathlib.Core.Logic.{_≢_, _⊎_, inl, inr}
+use mathlib.Core.Bool.{Bool, true, false}
+use mathlib.Core.List.{List, [], _∷_, _++_, append-assoc}
+use Prim.Native.Nat.{ℕ, zero, suc, _+_, _-_, _*_, _≤_, _<_}
+use native.Mathlib.Nat.{zero-add, suc-add, mul-le-mul}
+use native.Mathlib.Decide.{decLe}
+use native.Mathlib.Omega.{arith}
+use borrow.Author.Tests.{eq-eqb, ne-eqb, le-leb, lt-leb}
+use lib.Dec.{T, eqb, leb, eqb→eq}
+use lib.ListN.{length, getD, take, drop, replicate, length-append, length-take, length-replicate}
+use lib.Seq.{take-at, take-take, take-all, take-nil, length-take-le, getD-append-add}
+use Rattle.algebra.specs.Lists.{none, one}
+use Rattle.algebra.proofs.Tests.{and-left}
+use Rattle.model.specs.Fields.{fieldTests, settingTests}
+use Rattle.model.specs.Refusing.{firstFailed, given}
+use Rattle.model.specs.Presence.{everyone, PermittedSet}
+use Rattle.model.specs.Script.{Line, Script, accepted, refused, scriptOf}
+use Rattle.model.specs.Sheet.{Header, headerOf, headerSize, largestIn, settingOf, inputsAt, limits, impliedLength, rowCount, scriptIn, inputIn, dealIn, headerTests, limitTests, lengthTests, rowTests, sheetNumber, Permitted}
+use Rattle.model.specs.Checks.{Spent}
+use Rattle.model.specs.Run.{Outcome, Stop, nothingSpent, start, refusedInput, supplyOf, runScript, sheetScript, stopOf, outcome, run}
+use Rattle.model.specs.Buffers.{recordLength, revealedLength}
+use Rattle.model.specs.Exactness.{Accepted}
+use Rattle.model.specs.Refusals.{From}
+use Rattle.model.specs.Columns.{shapeTests}
+use Rattle.model.specs.Forecast.{Foreseen, headIn, headLengthTests, headTests, nothingForeseen, linesForeseen, scriptForeseen, amply, foreseen, forecast}
+use Rattle.model.specs.Forecasts.{Foretells, RightSheet, filled, OfForecast, Forecasts}
+use Rattle.model.proofs.Trying.{given-done, given-refused, numbered, holding, appended, after, all-hold, failed-in, passes, fails, others-decide, front-passes, others-pass, both-pass}
+use Rattle.model.proofs.Lengths.{header-numbered, header-read, fitting}
+use Rattle.model.proofs.SheetDeal.{implied}
+use Rattle.model.proofs.Acceptance.{sound}
+use Rattle.model.proofs.PresentTests.{later, without-set, everyone-permitted}
+use Rattle.model.proofs.PresentRuns.{present-runs}
+use Rattle.model.proofs.Refusals.{numbers}
+use Rattle.model.proofs.Held.{all-same}
+use Rattle.model.proofs.Buffers.{at-start, script-length, no-run-outgrows}
+use Rattle.model.proofs.ColumnForms.{head-header, shaped-length}
+use Rattle.model.proofs.Filled.{rows-pass}
+use Rattle.model.proofs.Foreseeing.{Follows, follows}
+
+-- the front of a list without its first elements
+drop-take : (n m : ℕ) (l : List ℕ) → drop n (take (n + m) l) ≡ take m (drop n l)
+drop-take zero m l = rw zero-add refl
+drop-take (suc n) m [] = rw (suc-add, take-nil) refl
+drop-take (suc n) m (x ∷ l) = rw suc-add (drop-take n m l)
+
+-- what 1, 2, 3 and the limits of 4 test
+abbrev counted : List ℕ → List (Bool × ℕ)
+counted s = headerTests s ++ limitTests (headerOf s)
+
+counted-numbered : (s : List ℕ) → T (numbered (counted s))
+unfolding fieldTests settingTests headerTests limitTests numbered
+counted-numbered s = tt
+
+head-tests : (s : List ℕ) → firstFailed (headTests s) ≡ given (firstFailed (counted s)) (firstFailed (headLengthTests (headerOf s) s)) (firstFailed (counted s))
+unfolding headTests
+head-tests s =
+    let h = headerOf s in
+    ap firstFailed (sym (append-assoc (headerTests s) (limitTests h) (headLengthTests h s))) ∙ appended (counted s) (headLengthTests h s) (counted-numbered s)
+
+-- a sheet's head, and the sheet
+module _ (s : List ℕ) where
+  abbrev h : Header
+  h = headerOf s
+
+  same-header : headerOf (headIn s) ≡ h
+  unfolding headIn
+  same-header = sym (head-header s (headIn s) (sym (take-take (inputsAt h) (inputsAt h) s (omega arith))))
+
+  same-script : sheetScript (headIn s) ≡ sheetScript s
+  unfolding headIn scriptIn
+  same-script =
+      rw same-header
+      (ap (λ (x : List ℕ). scriptOf (settingOf h .p) (largestIn h) x)
+      (ap (take (h .script)) (drop-take (headerSize h) (h .script) s) ∙ take-take (h .script) (h .script) _ (omega arith)))
+
+  -- as many bytes as header and script have, or the sheet itself where it has fewer
+  whole-head : inputsAt h ≤ length s → length (headIn s) ≡ inputsAt h
+  unfolding headIn
+  whole-head = length-take-le (inputsAt h) s
+
+  same-counted : firstFailed (counted (headIn s)) ≡ firstFailed (counted s)
+  unfolding headerTests headIn
+  same-counted = go (decLe (inputsAt h) (length s))
+    where
+      go : Dec (inputsAt h ≤ length s) → firstFailed (counted (headIn s)) ≡ firstFailed (counted s)
+      go (no k) = ap (λ (x : List ℕ). firstFailed (counted x)) (take-all (inputsAt h) s (omega arith))
+      go (yes k) =
+          rw (same-header, whole-head k, le-leb (headerSize h) (inputsAt h) (omega arith), le-leb (headerSize h) (length s) (omega arith)) refl
+
+  abbrev all : ℕ
+  all = everyone (h .n)
+
+  -- the sheet's other tests
+  abbrev others : List (Bool × ℕ)
+  others = lengthTests h s ++ rowTests (settingOf h) (inputIn h s) (dealIn h s)
+
+  sheet-tests : sheetNumber all s ≡ given (firstFailed (counted s)) (firstFailed others) (firstFailed (counted s))
+  sheet-tests =
+      without-set all s (everyone-permitted s) ∙ sym (appended (headerTests s) (later all s) (header-numbered s))
+      ∙ ap firstFailed (sym (append-assoc (headerTests s) (limitTests h) others)) ∙ appended (counted s) others (counted-numbered s)
+
+  -- where 1, 2, 3 and the limits do not refuse, the others do not refuse either
+  others-pass-both : RightSheet s → firstFailed (counted s) ≡ 0 → (firstFailed (headLengthTests h (headIn s)) ≡ 0) × (firstFailed others ≡ 0)
+  unfolding headLengthTests lengthTests firstFailed
+  others-pass-both R e =
+      let L = R e in
+      rw (eq-eqb (length (headIn s)) (inputsAt h) (whole-head (omega (arith, implied h, L .0))), eq-eqb (length s) (impliedLength h) (L .0)) (refl, L .1)
+
+  same-number : RightSheet s → firstFailed (headTests (headIn s)) ≡ sheetNumber all s
+  same-number R = head-tests (headIn s) ∙ rw (same-counted, same-header) (go (firstFailed (counted s)) refl) ∙ sym sheet-tests
+    where
+      go : (n : ℕ) → firstFailed (counted s) ≡ n → given n (firstFailed (headLengthTests h (headIn s))) n ≡ given n (firstFailed others) n
+      go zero e = let L = others-pass-both R e in L .0 ∙ sym (L .1)
+      go (suc n) e = refl
+
+  module _ (log shown : ℕ) (log-long : recordLength ≤ log) (shown-long : revealedLength ≤ shown) where
+    script-ends : sheetNumber all s ≡ 0 → (x : Script) → sheetScript s ≡ x → Follows (runScript all h s log shown x) (scriptForeseen h (amply h) x)
+    unfolding runScript scriptForeseen linesForeseen start
+    script-ends e (refused number place) q = record { number = refl; place = refl; spent = refl }
+    script-ends e (accepted xs end) q =
+        let P = sound all s e .permitted in
+        let F = fitting h P in
+        follows h F (P .people .most) log shown log-long shown-long all (inputIn h s) end xs (start (dealIn h s))
+        (at-start _ _ (scriptIn h s) q (omega (arith, script-length h s)))
+
+    ends-alike : RightSheet s → Follows (stopOf all s log shown) (foreseen (headIn s))
+    unfolding stopOf foreseen start
+    ends-alike R = rw (same-number R, same-script, same-header) (go (sheetNumber all s) refl)
+      where
+        go : (n : ℕ) → sheetNumber all s ≡ n
+            → Follows (given n (runScript all h s log shown (sheetScript s)) (refusedInput n 0)) (given n (scriptForeseen h (amply h) (sheetScript s)) (nothingForeseen n 0))
+        go zero e = script-ends e (sheetScript s) refl
+        go (suc n) e = record { number = refl; place = refl; spent = refl }
+
+as-run : (s log revealed : List ℕ) → RightSheet s → recordLength ≤ length log → revealedLength ≤ length revealed
+    → Foretells (foreseen (headIn s)) (run (everyone (headerOf s .n)) s log revealed)
+unfolding run outcome
+as-run s log revealed R l k =
+    let F = ends-alike s (length log) (length revealed) l k R in
+    record { number = F .number; place = F .place; counts = ap (λ (x : Spent). x .counts) (F .spent); marks = ap (λ (x : Spent). x .marks) (F .spent) }
+
+as-run-with : (present : ℕ) (s log revealed : List ℕ) → PermittedSet (headerOf s .n) (headerOf s .t) present → RightSheet s
+    → recordLength ≤ length log → revealedLength ≤ length revealed → Foretells (foreseen (headIn s)) (run present s log revealed)
+as-run-with present s log revealed Q R l k =
+    let F = as-run s log revealed R l k in
+    let x = present-runs .same-run present s log revealed Q in
+    record {
+      number = F .number ∙ sym (x .number);
+      place = F .place ∙ sym (x .place);
+      counts = F .counts ∙ sym (x .counts);
+      marks = F .marks ∙ sym (x .marks);
+    }
+
+-- a head that 1 to 4 do not refuse, and the sheet that is filled up from it
+module _ (s : List ℕ) (e : firstFailed (headTests s) ≡ 0) where
+  counted-pass : firstFailed (counted s) ≡ 0
+  unfolding headTests
+  counted-pass =
+      front-passes (counted s) (headLengthTests (headerOf s) s) (counted-numbered s)
+      (ap firstFailed (append-assoc (headerTests s) (limitTests (headerOf s)) (headLengthTests (headerOf s) s)) ∙ e)
+
+  long : length s ≡ inputsAt (headerOf s)
+  unfolding headTests headLengthTests limitTests numbered holding
+  long =
+      let h = headerOf s in
+      let more = others-pass (headerTests s) (limitTests h ++ headLengthTests h s) (header-numbered s) e in
+      let last = others-pass (limitTests h) (headLengthTests h s) tt more in
+      eqb→eq (length s) (inputsAt h) (and-left (eqb (length s) (inputsAt h)) true (all-hold 4 (headLengthTests h s) tt last))
+
+  permitted : Permitted (headerOf s)
+  unfolding limitTests numbered holding
+  permitted =
+      let h = headerOf s in
+      let R = header-read s refl (front-passes (headerTests s) (limitTests h) (header-numbered s) counted-pass) in
+      let more = others-pass (headerTests s) (limitTests h) (header-numbered s) counted-pass in
+      record { field = R .field; people = R .people; counts = and-left (limits h) true (all-hold 4 (limitTests h) tt more) }
+
+  abbrev count : ℕ
+  count = 4 * (headerOf s .n * rowCount (headerOf s))
+
+  abbrev zeros : List ℕ
+  zeros = replicate count 0
+
+  front : take (inputsAt (headerOf s)) (filled s) ≡ s
+  unfolding filled
+  front = take-at s zeros (inputsAt (headerOf s)) long
+
+  filled-header : headerOf (filled s) ≡ headerOf s
+  filled-header = sym (head-header s (filled s) (take-all (inputsAt (headerOf s)) s (omega (arith, long)) ∙ sym front))
+
+  filled-head : headIn (filled s) ≡ s
+  unfolding headIn
+  filled-head = rw filled-header front
+
+  filled-length : length (filled s) ≡ impliedLength (headerOf s)
+  unfolding filled
+  filled-length = rw (length-append, length-replicate, long) (omega (arith, implied (headerOf s)))
+
+  filled-zeros : (i : ℕ) → inputsAt (headerOf s) ≤ i → getD (filled s) i 0 ≡ 0
+  unfolding filled
+  filled-zeros i k =
+      let j = i - length s in
+      let q : i ≡ length s + j = omega (arith, long) in
+      rw q (getD-append-add s zeros j 0 ∙ all-same count j 0)
+
+  filled-rows : firstFailed (rowTests (settingOf (headerOf s)) (inputIn (headerOf s) (filled s)) (dealIn (headerOf s) (filled s))) ≡ 0
+  filled-rows = rows-pass (headerOf s) (filled s) permitted filled-zeros
+
+  filled-right : RightSheet (filled s)
+  filled-right _ = rw filled-header (filled-length, filled-rows)
+
+  filled-passes : sheetNumber (everyone (headerOf (filled s) .n)) (filled s) ≡ 0
+  filled-passes = sym (same-number (filled s) filled-right) ∙ ap (λ (x : List ℕ). firstFailed (headTests x)) filled-head ∙ e
+
+  filled-number : sheetNumber (everyone (headerOf s .n)) (filled s) ≡ 0
+  filled-number = rw filled-header at filled-passes
+
+-- what is refused
+head-first : (s : List ℕ) → firstFailed (headTests s) ≢ 0 → forecast s ≡ record { number = firstFailed (headTests s); place = 0 }
+unfolding forecast foreseen
+head-first s z = ap (λ (e : Foreseen). record { number = e .number; place = e .place }) (given-refused (firstFailed (headTests s)) _ _ z)
+
+four : (s : List ℕ) → firstFailed (headTests s) ≡ 4 → forecast s ≡ record { number = 4; place = 0 }
+four s e = head-first s (λ z. omega arith) ∙ rw e
+
+other-length : (s : List ℕ) → firstFailed (headerTests s) ≡ 0 → length s ≢ inputsAt (headerOf s) → forecast s ≡ record { number = 4; place = 0 }
+unfolding headTests headLengthTests limitTests
+other-length s e z =
+    let h = headerOf s in
+    four s (sym (others-decide (headerTests s) _ (header-numbered s) (sym e) refl (go (limits h) _ (fails 4 [] (ne-eqb (length s) (inputsAt h) z)))))
+  where
+    go : (b : Bool) (xs : List (Bool × ℕ)) → 4 ≡ firstFailed xs → 4 ≡ firstFailed ((b, 4) ∷ xs)
+    go true xs k = passes 4 xs refl k
+    go false xs k = fails 4 xs refl
+
+whole-sheet : (s : List ℕ) → firstFailed (shapeTests s) ≡ 0 → 0 < rowCount (headerOf s) → forecast s ≡ record { number = 4; place = 0 }
+unfolding shapeTests
+whole-sheet s w k =
+    let e = front-passes (headerTests s) _ (header-numbered s) w in
+    let P = header-read s refl e .people in
+    let rows : 1 ≤ headerOf s .n * rowCount (headerOf s) = mul-le-mul {n₁ = 1} {m₁ = 1} (omega arith) (omega arith) in
+    other-length s e (λ q. omega (arith, shaped-length s w))
+
+script-next : (s : List ℕ) (number place : ℕ) → firstFailed (headTests s) ≡ 0 → sheetScript s ≡ refused number place
+    → forecast s ≡ record { number = number; place = place }
+unfolding forecast foreseen scriptForeseen
+script-next s number place e q = rw (e, q) refl
+
+head-most : (s : List ℕ) → firstFailed (headTests s) ≢ 0 → From 1 4 (firstFailed (headTests s))
+unfolding fieldTests settingTests headerTests limitTests headLengthTests headTests
+head-most s =
+    failed-in (λ k. (k ≢ 0) → From 1 4 k) (λ z. absurd (z refl))
+    (one (λ _. omega arith) (one (λ _. omega arith) (one (λ _. omega arith) (one (λ _. omega arith) (one (λ _. omega arith) none)))))
+
+-- the number of a run that 1 to 8 do not refuse, with buffers that it does not outgrow
+run-number : (s log revealed : List ℕ) → sheetNumber (everyone (headerOf s .n)) s ≡ 0 → recordLength ≤ length log → revealedLength ≤ length revealed
+    → OfForecast (run (everyone (headerOf s .n)) s log revealed .number)
+run-number s log revealed e l k = go (sheetScript s) refl
+  where
+    late : {n : ℕ} → (n ≢ 25) × (n ≢ 26) → (n ≡ 0) ⊎ From 21 26 n → OfForecast n
+    late o (inl z) = inl z
+    late {n} o (inr h) = choose (decLe n 24) (decLe n 25)
+      where
+        choose : Dec (n ≤ 24) → Dec (n ≤ 25) → OfForecast n
+        choose (yes a) b = inr (inr (inr (omega arith)))
+        choose (no a) (yes b) = absurd (o .0 (omega arith))
+        choose (no a) (no b) = absurd (o .1 (omega arith))
+
+    go : (x : Script) → sheetScript s ≡ x → OfForecast (run (everyone (headerOf s .n)) s log revealed .number)
+    go (refused c i) q = let r = numbers .of-run (everyone (headerOf s .n)) s log revealed .script c i e q in inr (inr (inl (omega (arith, r .0, r .2))))
+    go (accepted xs end) q =
+        late (no-run-outgrows (everyone (headerOf s .n)) s log revealed l k)
+        (numbers .of-run (everyone (headerOf s .n)) s log revealed .state .1 (record { lines = xs; end = end; number = e; script = q }))
+
+-- so of its forecast, since the sheet that is filled up from a head is such a sheet
+as-filled : (s : List ℕ) → firstFailed (headTests s) ≡ 0 → (log revealed : List ℕ) → recordLength ≤ length log → revealedLength ≤ length revealed
+    → OfForecast (forecast s .number)
+unfolding forecast
+as-filled s e log revealed l k =
+    let x = filled s in
+    let q = ap (λ (y : List ℕ). foreseen y .number) (sym (filled-head s e)) ∙ as-run x log revealed (filled-right s e) l k .number in
+    subst OfForecast (sym q) (run-number x log revealed (filled-passes s e) l k)
+
+of-forecast : (s : List ℕ) → OfForecast (forecast s .number)
+of-forecast s = go (firstFailed (headTests s)) refl
+  where
+    go : (n : ℕ) → firstFailed (headTests s) ≡ n → OfForecast (forecast s .number)
+    go zero e = as-filled s e (replicate recordLength 0) (replicate revealedLength 0) (rw length-replicate (omega arith)) (rw length-replicate (omega arith))
+    go (suc n) e =
+        let z : firstFailed (headTests s) ≢ 0 = λ q. omega arith in
+        rw (head-first s z) (inr (inl (head-most s z)))
+
+pub forecasts : Forecasts
+forecasts =
+    record {
+      as-run = as-run;
+      as-run-with = as-run-with;
+      has-sheet = λ s e. (filled-head s e, filled-number s e);
+      head-first = head-first;
+      other-length = other-length;
+      whole-sheet = whole-sheet;
+      script-next = script-next;
+      numbers = of-forecast;
+    }
