@@ -1,3 +1,4 @@
 pub mod Marks
 pub mod Ranging
 pub mod Missing
+pub mod Attempts

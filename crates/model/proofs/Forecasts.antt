@@ -18,7 +18,7 @@ use Rattle.model.specs.Fields.{fieldTests, settingTests}
 use Rattle.model.specs.Refusing.{firstFailed, given}
 use Rattle.model.specs.Presence.{everyone, PermittedSet}
 use Rattle.model.specs.Script.{Line, Script, accepted, refused, scriptOf}
-use Rattle.model.specs.Sheet.{Header, headerOf, headerSize, largestIn, settingOf, inputsAt, limits, impliedLength, rowCount, scriptIn, inputIn, dealIn, headerTests, limitTests, lengthTests, rowTests, sheetNumber, Permitted}
+use Rattle.model.specs.Sheet.{Header, headerOf, headerSize, maskBits, largestIn, settingOf, inputsAt, limits, impliedLength, rowCount, scriptIn, inputIn, dealIn, headerTests, limitTests, lengthTests, rowTests, sheetNumber, Permitted}
 use Rattle.model.specs.Checks.{Spent}
 use Rattle.model.specs.Run.{Outcome, Stop, nothingSpent, start, refusedInput, supplyOf, runScript, sheetScript, stopOf, outcome, run}
 use Rattle.model.specs.Buffers.{recordLength, revealedLength}
@@ -117,7 +117,7 @@ module _ (s : List ℕ) where
       go (suc n) e = refl
 
   module _ (log shown : ℕ) (log-long : recordLength ≤ log) (shown-long : revealedLength ≤ shown) where
-    script-ends : sheetNumber all s ≡ 0 → (x : Script) → sheetScript s ≡ x → Follows (runScript all h s log shown x) (scriptForeseen h (amply h) x)
+    script-ends : sheetNumber all s ≡ 0 → (x : Script) → sheetScript s ≡ x → Follows (runScript all h s log shown x) (scriptForeseen (maskBits h) (amply h) x)
     unfolding runScript scriptForeseen linesForeseen start
     script-ends e (refused number place) q = record { number = refl; place = refl; spent = refl }
     script-ends e (accepted xs end) q =
@@ -131,7 +131,7 @@ module _ (s : List ℕ) where
     ends-alike R = rw (same-number R, same-script, same-header) (go (sheetNumber all s) refl)
       where
         go : (n : ℕ) → sheetNumber all s ≡ n
-            → Follows (given n (runScript all h s log shown (sheetScript s)) (refusedInput n 0)) (given n (scriptForeseen h (amply h) (sheetScript s)) (nothingForeseen n 0))
+            → Follows (given n (runScript all h s log shown (sheetScript s)) (refusedInput n 0)) (given n (scriptForeseen (maskBits h) (amply h) (sheetScript s)) (nothingForeseen n 0))
         go zero e = script-ends e (sheetScript s) refl
         go (suc n) e = record { number = refl; place = refl; spent = refl }
 

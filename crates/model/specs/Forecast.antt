@@ -35,14 +35,14 @@ Foreseen = Ended ⊥
 abbrev pub nothingForeseen : ℕ → ℕ → Foreseen
 nothingForeseen number place = record { number = number; place = place; spent = nothingSpent; registers = [] }
 
--- The lines of a script from the start, gone over as a run goes over them, by the same checks and payments; the commands do nothing. u is what there is,
--- and `end` END's offset.
-unfoldable pub linesForeseen : Header → Supply → ℕ → List Line → Foreseen
-linesForeseen h u end xs = throughLines (λ e. e) (λ j c g go. go g) (modTriples (maskBits h)) u end xs nothingSpent []
+-- The lines of a script from the start, gone over as a run goes over them, by the same checks and payments; the commands do nothing. l is the bits of a
+-- mask, u what there is, and `end` END's offset.
+unfoldable pub linesForeseen : ℕ → Supply → ℕ → List Line → Foreseen
+linesForeseen l u end xs = throughLines (λ e. e) (λ j c g go. go g) (modTriples l) u end xs nothingSpent []
 
-unfoldable pub scriptForeseen : Header → Supply → Script → Foreseen
-scriptForeseen h u (refused number place) = nothingForeseen number place
-scriptForeseen h u (accepted xs end) = linesForeseen h u end xs
+unfoldable pub scriptForeseen : ℕ → Supply → Script → Foreseen
+scriptForeseen l u (refused number place) = nothingForeseen number place
+scriptForeseen l u (accepted xs end) = linesForeseen l u end xs
 
 -- "given large enough buffers": what the header says that there is, and the buffers of program table, by which 25 and 26 never come (`Forecasts`)
 abbrev pub amply : Header → Supply
@@ -53,7 +53,7 @@ unfoldable pub foreseen : List ℕ → Foreseen
 foreseen s =
     let h = headerOf s in
     let number = firstFailed (headTests s) in
-    given number (scriptForeseen h (amply h) (sheetScript s)) (nothingForeseen number 0)
+    given number (scriptForeseen (maskBits h) (amply h) (sheetScript s)) (nothingForeseen number 0)
 
 -- "It gives number and place."
 pub record Forecast : Type 0 where

@@ -1,3 +1,4 @@
 pub mod Sizes
 pub mod Decoding
 pub mod Checking
+pub mod Lines
