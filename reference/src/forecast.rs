@@ -1,5 +1,5 @@
 //! Whether a script would come to END, given large enough buffers: number and place of its run, from header
-//! and script alone. No row is looked at.
+//! and script alone, which are the head of a sheet. No row is looked at.
 
 pub mod case;
 mod course;

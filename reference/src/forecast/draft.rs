@@ -38,8 +38,7 @@ impl Draft {
     }
 
     /// So many input rows, masks and triples.
-    pub fn with_counts(self, inputs: u16, masks: u16, triples: u16) -> Draft {
-        let counts = [inputs, masks, triples];
+    pub fn with_counts(self, counts: [u16; 3]) -> Draft {
         Draft { counts, ..self }
     }
 

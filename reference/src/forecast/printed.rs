@@ -152,7 +152,7 @@ mod tests {
             The run comes to END. It takes 2 of 2 input rows, 0 of 0 masks and 1 of 1 triples.\n";
         assert_eq!(lines(&sheet[..22]), expected);
         assert_eq!(lines(&sheet), expected);
-        let more = Draft::new(0, &sheet[11..22]).with_counts(64, 16, 512);
+        let more = Draft::new(0, &sheet[11..22]).with_counts([64, 16, 512]);
         let expected = "end 0 at 10\n\
             The run comes to END. It takes 2 of 64 input rows, 0 of 16 masks and 1 of 512 triples.\n";
         assert_eq!(printed(more), expected);
@@ -178,7 +178,7 @@ mod tests {
 
     #[test]
     fn a_count_is_told_before_the_length() {
-        let draft = Draft::new(0, &[0]).with_counts(65, 2, 3);
+        let draft = Draft::new(0, &[0]).with_counts([65, 2, 3]);
         let mut head = draft.to_bytes();
         let said =
             "A count is over its limit: 65 input rows of at most 64, 2 masks of at most 16, \
@@ -265,14 +265,14 @@ mod tests {
     #[test]
     fn an_unset_register_is_told() {
         let expected = "end 21 at 2\nADD at 2 reads register 5, which no command before it sets.\n";
-        let add = Draft::new(0, &[1, 0, 3, 5, 0, 5, 0]).with_counts(1, 0, 0);
+        let add = Draft::new(0, &[1, 0, 3, 5, 0, 5, 0]).with_counts([1, 0, 0]);
         assert_eq!(printed(add), expected);
     }
 
     /// The script of the example, with fewer masks or triples.
-    fn three_calls(inputs: u16, masks: u16, triples: u16) -> String {
+    fn three_calls(counts: [u16; 3]) -> String {
         let sheet = examples::named("three-calls").unwrap();
-        printed(Draft::new(2, &sheet[11..49]).with_counts(inputs, masks, triples))
+        printed(Draft::new(2, &sheet[11..49]).with_counts(counts))
     }
 
     #[test]
@@ -280,19 +280,19 @@ mod tests {
         let all = "The whole script needs 3 input rows, 3 masks and 78 triples.";
         let said = "LOAD at 4 needs 1 input row: 0 of 2 input rows are left.";
         assert_eq!(
-            three_calls(2, 3, 78),
+            three_calls([2, 3, 78]),
             format!("end 22 at 4\n{said}\n{all}\n")
         );
         let said =
             "BLOCKS at 16 needs 1 mask and 26 triples: 0 of 2 masks and 3 of 55 triples are left.";
         assert_eq!(
-            three_calls(3, 2, 55),
+            three_calls([3, 2, 55]),
             format!("end 23 at 16\n{said}\n{all}\n")
         );
         let said =
             "BLOCKS at 16 needs 1 mask and 26 triples: 1 of 3 masks and 25 of 77 triples are left.";
         assert_eq!(
-            three_calls(3, 3, 77),
+            three_calls([3, 3, 77]),
             format!("end 24 at 16\n{said}\n{all}\n")
         );
     }
@@ -303,7 +303,7 @@ mod tests {
         let square = Draft::of(0, &[Command::Load { d }, Command::Mul { d, a, b }]);
         let expected = "end 24 at 2\nMUL at 2 needs 1 triple: 0 of 0 triples are left.\n\
             The whole script needs 1 input row, 0 masks and 1 triple.\n";
-        assert_eq!(printed(square.with_counts(1, 0, 0)), expected);
+        assert_eq!(printed(square.with_counts([1, 0, 0])), expected);
     }
 
     /// The second LOAD sets the register that REVEAL reads, though it is refused.
@@ -312,7 +312,7 @@ mod tests {
         let (first, second) = (Command::Load { d: 0 }, Command::Load { d: 1 });
         let told = |a| {
             let draft = Draft::of(0, &[first, second, Command::Reveal { a }]);
-            printed(draft.with_counts(1, 0, 0))
+            printed(draft.with_counts([1, 0, 0]))
         };
         let said = "end 22 at 2\nLOAD at 2 needs 1 input row: 0 of 1 input rows are left.\n";
         let all = "The whole script needs 2 input rows, 0 masks and 0 triples.\n";

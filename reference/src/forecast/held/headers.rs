@@ -30,7 +30,7 @@ fn refused() -> [Held; 4] {
 fn limits() -> [Held; 6] {
     let most = Draft::new(3, &[0])
         .with_parties(7, 3)
-        .with_counts(64, 16, 512);
+        .with_counts([64, 16, 512]);
     let (longest, longer) = (vec![255; 1024], vec![255; 1025]);
     let says = "9: a script of 1,024 bytes, which are no commands";
     [
@@ -38,9 +38,9 @@ fn limits() -> [Held; 6] {
             "64 inputs, 16 masks and 512 triples of seven parties in field 3",
             most,
         ),
-        held("4: 65 inputs", end().with_counts(65, 0, 0)),
-        held("4: 17 masks", end().with_counts(0, 17, 0)),
-        held("4: 513 triples", end().with_counts(0, 0, 513)),
+        held("4: 65 inputs", end().with_counts([65, 0, 0])),
+        held("4: 17 masks", end().with_counts([0, 17, 0])),
+        held("4: 513 triples", end().with_counts([0, 0, 513])),
         held(says, Draft::new(0, &longest)),
         held("4: a script of 1,025 bytes", Draft::new(0, &longer)),
     ]
@@ -48,7 +48,7 @@ fn limits() -> [Held; 6] {
 
 /// LOAD 0 and END with an input row.
 fn lengths() -> [Held; 4] {
-    let head = Draft::new(0, &[1, 0, 0]).with_counts(1, 0, 0).to_bytes();
+    let head = Draft::new(0, &[1, 0, 0]).with_counts([1, 0, 0]).to_bytes();
     let with = |more: &[u8]| [&head[..], more].concat();
     let sheet = with(&[5, 0, 0, 0, 5, 0, 0, 0, 5, 0, 0, 0]);
     [
@@ -62,7 +62,7 @@ fn lengths() -> [Held; 4] {
 fn ordered() -> [Held; 4] {
     let refused = Draft::new(4, &[14])
         .with_parties(8, 1)
-        .with_counts(65, 0, 0);
+        .with_counts([65, 0, 0]);
     let in_field = Draft {
         field: 0,
         ..refused.clone()

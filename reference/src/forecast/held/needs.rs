@@ -17,7 +17,7 @@ fn head((field, command, ..): Needs, triples: u16) -> Draft {
     let (inputs, masks) = (reads.len() as u16, !matches!(command, Bitlt { .. }));
     let loads = reads.into_iter().map(|d| Load { d });
     let commands: Vec<Command> = loads.chain([command]).collect();
-    Draft::of(field, &commands).with_counts(inputs, masks.into(), triples)
+    Draft::of(field, &commands).with_counts([inputs, masks.into(), triples])
 }
 
 fn rows(needs: Needs) -> [Held; 2] {

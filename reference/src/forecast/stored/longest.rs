@@ -4,7 +4,7 @@
 use super::Told;
 use crate::forecast::draft::Draft;
 use crate::forecast::head_of;
-use crate::refusal::{COMMAND, FORM, LENGTH, NONE, NO_INPUT, NO_TRIPLES, UNSET};
+use crate::refusal::{COMMAND, FORM, LENGTH, NONE, NO_INPUT, NO_TRIPLES, RANGE, UNSET};
 use crate::script::command::Command::{self, *};
 use crate::sheets::bench;
 
@@ -25,18 +25,16 @@ fn filled(commands: &[Command], a: u8, bytes: usize) -> Vec<Command> {
 }
 
 fn told(commands: &[Command], counts: [u16; 3], number: u32, place: usize) -> Told {
-    let [inputs, masks, triples] = counts;
     let draft = Draft::of(3, commands).with_parties(7, 3);
-    let head = draft.with_counts(inputs, masks, triples).to_bytes();
+    let head = draft.with_counts(counts).to_bytes();
     (head, number, place)
 }
 
-/// 508 to 511 REVEALs: of a constant, of a loaded row, and of registers that are unset.
+/// 508 REVEALs of a constant, 510 of a loaded row, 511 of an unset register, and one of these at the end.
 fn reveals() -> Vec<Told> {
     let constant = filled(&[Const { d: 5, v: 1 }], 5, 1024);
     let loaded = filled(&[Load { d: 5 }], 5, 1024);
     let unset = filled(&[], 5, 1024);
-    assert_eq!([constant.len(), loaded.len(), unset.len()], [509, 511, 511]);
     let last = [&loaded[..510], &[Reveal { a: 6 }]].concat();
     vec![
         told(&constant, [0; 3], NONE, 1022),
@@ -47,14 +45,13 @@ fn reveals() -> Vec<Told> {
     ]
 }
 
-/// 1,024 bytes with END and without, 1,025, and 9 to 11 at their last bytes.
+/// 1,024 bytes with END and without, 1,025, and 9 to 11 near the end of 1,024.
 fn lengths() -> Vec<Told> {
     // SCALE has seven bytes, so that the script's length is even
     let scaled = filled(&[Load { d: 0 }, Scale { d: 0, a: 0, v: 2 }], 0, 1024);
     let script = Draft::of(0, &scaled).script;
-    assert_eq!(script.len(), 1024);
     let with = |script: &[u8], number, place| {
-        let draft = Draft::new(0, script).with_counts(1, 0, 0);
+        let draft = Draft::new(0, script).with_counts([1, 0, 0]);
         (draft.to_bytes(), number, place)
     };
     let ended = |end: &[u8]| [&script[..1024 - end.len()], end].concat();
@@ -66,6 +63,7 @@ fn lengths() -> Vec<Told> {
         with(&ended(&[14]), COMMAND, 1023),
         with(&ended(&[12]), FORM, 1023),
         with(&ended(&[0, 0, 0]), FORM, 1022),
+        with(&ended(&[12, 64, 0]), RANGE, 1021),
     ]
 }
 
@@ -90,4 +88,29 @@ fn spent() -> Vec<Told> {
         told(&many, [64, 16, 512], NONE, end(&many)),
         told(&many, [64, 16, 511], NO_TRIPLES, 2 + 16 * 4 + 15 * 4),
     ]
+}
+
+#[cfg(test)]
+mod tests {
+    use super::*;
+    use crate::sheet::header;
+
+    #[test]
+    fn scripts_have_1023_to_1025_bytes() {
+        for (head, number, place) in all() {
+            let script = head.len() - header::BYTES;
+            assert!(
+                (1023..=1025).contains(&script),
+                "{number} at {place}: {script}"
+            );
+            assert_eq!(script == 1025, number == LENGTH);
+        }
+    }
+
+    /// LOAD and 510 REVEALs, or 511 REVEALs.
+    #[test]
+    fn no_script_has_more_commands() {
+        let commands = [filled(&[Load { d: 5 }], 5, 1024), filled(&[], 5, 1024)];
+        assert_eq!(commands.map(|it| it.len()), [511, 511]);
+    }
 }

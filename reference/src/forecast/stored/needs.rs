@@ -26,7 +26,7 @@ pub fn all() -> Vec<Told> {
 fn loaded(field: u8) -> [Told; 3] {
     let with = |inputs, number, place| {
         let draft = Draft::of(field, &[Command::Load { d: 7 }]);
-        (draft.with_counts(inputs, 0, 0).to_bytes(), number, place)
+        (draft.with_counts([inputs, 0, 0]).to_bytes(), number, place)
     };
     [with(0, NO_INPUT, 0), with(1, NONE, 2), with(2, NONE, 2)]
 }
@@ -76,7 +76,7 @@ fn around(field: u8, command: Command, masks: u16, triples: u16) -> Vec<Told> {
     let inputs = commands.len() as u16 - 1;
     let (place, end) = (2 * usize::from(inputs), script_of(&commands).len() - 1);
     let with = |masks, triples, number, place| {
-        let draft = Draft::of(field, &commands).with_counts(inputs, masks, triples);
+        let draft = Draft::of(field, &commands).with_counts([inputs, masks, triples]);
         (draft.to_bytes(), number, place)
     };
     let mut all = vec![

@@ -8,7 +8,7 @@ use crate::refusal::{FIELD, HEADER, LENGTH, NONE, PARTIES};
 
 /// LOAD 0, REVEAL 0 and END, with an input row.
 fn some(field: u8) -> Draft {
-    Draft::new(field, &[1, 0, 12, 0, 0]).with_counts(1, 0, 0)
+    Draft::new(field, &[1, 0, 12, 0, 0]).with_counts([1, 0, 0])
 }
 
 fn at_0(draft: Draft, number: u32) -> Told {
@@ -58,7 +58,7 @@ const OUTSIDE: [(u8, u8); 16] = [
 /// Each count at its limit, one over it, and with a high byte alone. All at their limits.
 fn limits() -> Vec<Told> {
     let end = || Draft::new(0, &[0]);
-    let mut all = vec![at_0(end().with_counts(64, 16, 512), NONE)];
+    let mut all = vec![at_0(end().with_counts([64, 16, 512]), NONE)];
     for (kind, limit) in [64, 16, 512].into_iter().enumerate() {
         let with = |count, number| {
             let mut draft = end();
@@ -69,9 +69,9 @@ fn limits() -> Vec<Told> {
         let over = [limit + 1, limit + 2, limit + 256, 1024, 0x8000, u16::MAX];
         all.extend(over.map(|count| with(count, LENGTH)));
     }
-    all.extend([256, 257].map(|count| at_0(end().with_counts(0, 0, count), NONE)));
-    all.push(at_0(end().with_counts(256, 0, 0), LENGTH));
-    all.push(at_0(end().with_counts(0, 256, 0), LENGTH));
+    all.extend([256, 257].map(|count| at_0(end().with_counts([0, 0, count]), NONE)));
+    all.push(at_0(end().with_counts([256, 0, 0]), LENGTH));
+    all.push(at_0(end().with_counts([0, 256, 0]), LENGTH));
     all
 }
 
@@ -100,7 +100,7 @@ fn lengths(good: &[u8]) -> Vec<Told> {
 pub fn in_order() -> Vec<Told> {
     let wrong = |field, n, t| {
         let draft = Draft::new(field, &[12, 0, 14]);
-        draft.with_parties(n, t).with_counts(65, 17, 513)
+        draft.with_parties(n, t).with_counts([65, 17, 513])
     };
     let cut = |draft: Draft| draft.to_bytes()[..10].to_vec();
     let mut all = vec![
@@ -141,11 +141,11 @@ fn length_first() -> Vec<Told> {
         &[2, 0, 1, 0, 0, 0, 6, 0, 0, 0, 0],
     ];
     let wrong = |script: &[u8]| {
-        let draft = Draft::new(1, script).with_counts(1, 0, 0);
+        let draft = Draft::new(1, script).with_counts([1, 0, 0]);
         let head = draft.to_bytes();
         let shorter = head[..head.len() - 1].to_vec();
         let longer = [&head[..], &head[head.len() - 1..]].concat();
-        let over = draft.with_counts(65, 0, 0).to_bytes();
+        let over = draft.with_counts([65, 0, 0]).to_bytes();
         [shorter, longer, over].map(|head| (head, LENGTH, 0))
     };
     scripts.into_iter().flat_map(wrong).collect()

@@ -17,8 +17,7 @@ pub fn all() -> Vec<Told> {
 
 /// The commands, END, and number and place with so many input rows, masks and triples.
 fn told(field: u8, commands: &[Command], counts: [u16; 3], (number, place): (u32, usize)) -> Told {
-    let [inputs, masks, triples] = counts;
-    let draft = Draft::of(field, commands).with_counts(inputs, masks, triples);
+    let draft = Draft::of(field, commands).with_counts(counts);
     (draft.to_bytes(), number, place)
 }
 
