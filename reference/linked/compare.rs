@@ -1,17 +1,20 @@
-//! Holds the proved library to the reference: the stored sheets, entries, lists and inputs of the column
-//! form, then drawn ones.
+//! Holds the proved library to the reference: the stored sheets, entries, lists, inputs of the column form
+//! and of the forecast, then drawn ones.
 //!
 //! `reference/link` builds it. A sheet is run with any byte that says who is present. Of a run are
-//! compared number, place and counts, marks, register cells, and both buffers to their last number; of a
-//! small entry (share, recover, encode, decode, sum) number, value and the lent list, and of a sum also
-//! the remainder by p with the secret that the library recovers from the same row; of the import of a
-//! list of calls number, how many calls were written, and the buffer to its last number; of the column
-//! form, there and back, number and the output to its last byte. Lists of numbers are filled before with
-//! numbers that are never written, so that a number too many, too few or left over is seen. Every byte
-//! can be written to an output of the column form, so it is filled with bytes that change from place to
-//! place. The lists for registers, marks and counts are at times too short or too long.
+//! compared number, place and counts, marks, register cells, and both buffers to their last number; of
+//! a small entry (share, recover, encode, decode, sum) number, value and the lent list, and of a sum
+//! also the remainder by p with the secret that the library recovers from the same row; of the import
+//! of a list of calls number, how many calls were written, and the buffer to its last number; of the
+//! column form, there and back, number and the output to its last byte; of the forecast number and
+//! place, and for the header and script of a sheet whose rows and length are not refused also with
+//! number and place of the library's own run. Lists of numbers are filled before with numbers that are
+//! never written, so that a number too many, too few or left over is seen. Every byte can be written to
+//! an output of the column form, so it is filled with bytes that change from place to place. The lists
+//! for registers, marks and counts are at times too short or too long.
 
 mod entries;
+mod forecasts;
 mod library;
 mod words;
 
@@ -25,11 +28,15 @@ use reference::cases::generator::Generator;
 use reference::cases::{self, case_for, sum_for};
 use reference::columns;
 use reference::columns::drawn::turn_for;
+use reference::compare::foretold::is_foretold;
 use reference::compare::summed::{recovery, recovery_difference};
-use reference::compare::{Entered, Imported, Lengths, Ran, Turned};
+use reference::compare::{Entered, Foretold, Imported, Lengths, Ran, Turned};
+use reference::forecast::drawn::head_for;
+use reference::forecast::{self, head_of};
 use reference::present::everyone_of;
 use reference::run_case;
 use reference::sheets::{self, sheet_for};
+use reference::table::{RECORD, REVEALED};
 
 const USAGE: &str = "\
 usage: compare SEED COUNT [FIRST]
@@ -37,10 +44,12 @@ usage: compare SEED COUNT [FIRST]
 Compares the proved library with the reference: all that is stored, COUNT sheets drawn from SEED
 and the indices FIRST, FIRST + 1, ... (FIRST is 0 if left out), each with a drawn set of present
 parties, permitted or not, and for each of them 5 calls of small entries (4 of share, recover, encode
-or decode, and one of sum), the import of a list of calls, and an input turned to the column form or
-to the sheet. A sum's remainder is compared also with the secret that the library recovers from the
-same row. The last line tells how many were compared and how many differ. Exits with 1 if any does,
-with 2 if the arguments are wrong.
+or decode, and one of sum), the import of a list of calls, an input turned to the column form or to
+the sheet, and the forecast of a drawn input and of the sheet's header and script. A sum's remainder
+is compared also with the secret that the library recovers from the same row, and the forecast of a
+sheet's header and script with the end of the library's run of the sheet, everyone being present and
+both buffers ample. The last line tells how many were compared and how many differ. Exits with 1 if
+any does, with 2 if the arguments are wrong.
 
 Build it with bash reference/link, after rt staticlib jundrethol.";
 
@@ -68,6 +77,9 @@ struct Tally {
     sums: Numbers,
     imports: Numbers,
     turns: Numbers,
+    forecasts: Numbers,
+    /// How many of them were compared with a run.
+    foretold: u64,
     differing: usize,
 }
 
@@ -140,6 +152,42 @@ impl Tally {
         }
     }
 
+    /// The library's forecast, after it is compared.
+    fn forecast(&mut self, name: &str, head: &[u8]) -> Foretold {
+        let mut reference = Foretold::before();
+        let mut library = reference.clone();
+        reference.by_reference(head);
+        forecasts::forecast(&mut library, head);
+        *self.forecasts.entry(reference.number).or_default() += 1;
+        if let Some(difference) = reference.difference(&library) {
+            let shown = &head[..head.len().min(SHOWN)];
+            let length = head.len();
+            self.differs(format!(
+                "{name}: {difference}\n  input of {length} bytes: {shown:?}"
+            ));
+        }
+        library
+    }
+
+    /// The forecast of the sheet's header and script, compared with the sheet's run too, where they decide
+    /// how it ends.
+    fn foretold(&mut self, name: &str, sheet: &[u8]) {
+        if !is_foretold(sheet) {
+            return;
+        }
+        let foretold = self.forecast(name, head_of(sheet));
+        let mut ran = Ran::before(RECORD, REVEALED, Lengths::WHOLE);
+        library::run(&mut ran, sheet, everyone_of(sheet));
+        self.foretold += 1;
+        if let Some(difference) = foretold.run_difference(&ran) {
+            let shown = &sheet[..sheet.len().min(SHOWN)];
+            let length = sheet.len();
+            self.differs(format!(
+                "{name}: {difference}\n  sheet of {length} bytes: {shown:?}"
+            ));
+        }
+    }
+
     fn differs(&mut self, lines: String) {
         if self.differing < LISTED {
             println!("{lines}");
@@ -150,6 +198,7 @@ impl Tally {
     fn stored(&mut self) {
         for (place, case) in sheets::stored::all().iter().enumerate() {
             self.run(&format!("stored sheet {place}"), case, Lengths::WHOLE);
+            self.foretold(&format!("head of stored sheet {place}"), &case.sheet);
         }
         for (place, case) in cases::all().iter().enumerate() {
             self.entry(&format!("stored entry {place}"), case);
@@ -159,6 +208,9 @@ impl Tally {
         }
         for (place, case) in columns::stored::all().iter().enumerate() {
             self.turn(&format!("stored input {place}"), case);
+        }
+        for (place, case) in forecast::stored::all().iter().enumerate() {
+            self.forecast(&format!("stored head {place}"), &case.head);
         }
     }
 
@@ -173,6 +225,9 @@ impl Tally {
         self.entry(&format!("sum {seed} {index}"), &sum_for(seed, index));
         self.import(&format!("list {seed} {index}"), &list_for(seed, index));
         self.turn(&format!("input {seed} {index}"), &turn_for(seed, index));
+        let head = head_for(seed, index).head;
+        self.forecast(&format!("head {seed} {index}"), &head);
+        self.foretold(&format!("head of sheet {seed} {index}"), &case.sheet);
     }
 
     fn tell(&self) {
@@ -181,12 +236,20 @@ impl Tally {
         println!("sums by number: {}", told(&self.sums));
         println!("lists by number: {}", told(&self.imports));
         println!("turned by number: {}", told(&self.turns));
-        let numbers = [&self.runs, &self.sums, &self.imports, &self.turns];
-        let [runs, sums, imports, turns] = numbers.map(total);
+        println!("forecasts by number: {}", told(&self.forecasts));
+        let numbers = [
+            &self.runs,
+            &self.sums,
+            &self.imports,
+            &self.turns,
+            &self.forecasts,
+        ];
+        let [runs, sums, imports, turns, forecasts] = numbers.map(total);
         println!(
             "{runs} runs of sheets, {} calls of small entries, {sums} of them sums, {imports} imports \
-             of lists and {turns} inputs turned compared, {} differ",
-            self.entries, self.differing
+             of lists, {turns} inputs turned and {forecasts} forecasts, {} of them against a run, \
+             compared, {} differ",
+            self.entries, self.foretold, self.differing
         );
     }
 }

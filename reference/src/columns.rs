@@ -9,7 +9,7 @@ pub mod held;
 pub mod stored;
 
 use crate::refusal;
-use crate::sheet::header::{self, Header};
+use crate::sheet::header::Header;
 
 /// The bytes of a share.
 const SHARE: usize = 4;
@@ -52,7 +52,7 @@ fn turn(input: &[u8], output: &mut [u8], put: fn(&[u8], &mut [u8], usize)) -> Re
     let header = Header::read(input)?;
     let output = output.get_mut(..input.len());
     let output = output.ok_or(refusal::OUTPUT_SHORT)?;
-    let head = header::BYTES + header.script;
+    let head = header.head_length();
     let (output_head, output_shares) = output.split_at_mut(head);
     output_head.copy_from_slice(&input[..head]);
     put(&input[head..], output_shares, header.parties);

@@ -1,6 +1,6 @@
 //! Computes directly from the definitions what the proved library computes: sharing, recovery, the
 //! sum of which the secret is the remainder, signed coding, the steps, the run of a whole sheet, the
-//! import of a list of calls, and the column form of a sheet.
+//! import of a list of calls, the column form of a sheet, and the forecast of a run.
 
 pub mod calls;
 pub mod case;
@@ -9,6 +9,7 @@ pub mod columns;
 pub mod compare;
 pub mod dealer;
 pub mod field;
+pub mod forecast;
 pub mod line;
 pub mod model_cases;
 pub mod opening;

@@ -1,14 +1,16 @@
-//! The command line: writes cases, their answers and examples, and prints the run of a sheet and the
-//! import of a list.
+//! The command line: writes cases, their answers and examples, and prints the run of a sheet, the import of
+//! a list and the forecast of a run.
 
 use std::io::{self, Read, Write};
 use std::process::ExitCode;
 
-use reference::{calls, case, cases, columns, line, model_cases, run_case, sheets, steps, table};
+use reference::{
+    calls, case, cases, columns, forecast, line, model_cases, run_case, sheets, steps, table,
+};
 
 const USAGE: &str = "usage: reference WORD [NAME]    (reference --help says what each word does)";
 
-/// TABLES stands for the names of the model's tables, SHEETS and LISTS for those of the examples.
+/// TABLES stands for the names of the model's tables, SHEETS, LISTS and HEADS for those of the examples.
 const HELP: &str = "\
 usage: reference WORD [NAME]
 
@@ -24,11 +26,15 @@ call-cases        writes the stored lists of calls, each with the length of its 
 call-answers      reads such lists and writes all that each import leaves
 column-cases      writes the stored inputs of the column form, each with its direction and its output's length
 column-answers    reads such inputs and writes all that turning each leaves
+forecast-cases    writes the stored inputs of the forecast, mostly headers with their scripts
+forecast-answers  reads such inputs and writes number and place of each
 model-cases NAME  writes one of the model's tables of cases; the names are TABLES
 table             reads a sheet and writes the lines of its run
 calls             reads a list of calls and writes the seconds of each, and the end of the import
+forecast          reads header and script, or a sheet, and writes how its run would end, and why
 example NAME      writes an example sheet; the names are SHEETS
 example-list NAME writes an example list; the names are LISTS
+example-head NAME writes header and script of an example; the names are HEADS
 largest           writes a sheet that reaches every limit
 gate-sheets       writes the names of the further sheets that the gate runs, one to a line
 gate-sheet NAME   writes the sheet with such a name
@@ -54,17 +60,25 @@ fn main() -> ExitCode {
         ["call-answers"] => call_answers(),
         ["column-cases"] => write_out(&all_bytes(&columns::stored::all(), |case| case.to_bytes())),
         ["column-answers"] => column_answers(),
+        ["forecast-cases"] => {
+            write_out(&all_bytes(&forecast::stored::all(), |case| case.to_bytes()))
+        }
+        ["forecast-answers"] => forecast_answers(),
         ["model-cases", name] => model_table(name),
         ["table"] => read_in().and_then(|sheet| write_out(table::lines(&sheet).as_bytes())),
         ["calls"] => read_in().and_then(|list| write_out(calls::case::printed(&list).as_bytes())),
+        ["forecast"] => {
+            read_in().and_then(|input| write_out(forecast::printed::lines(&input).as_bytes()))
+        }
         ["example", name] => example(name),
         ["example-list", name] => example_list(name),
+        ["example-head", name] => example_head(name),
         ["largest"] => write_out(&sheets::bench::largest()),
         ["gate-sheets"] => write_out(gate_names().as_bytes()),
         ["gate-sheet", name] => gate_sheet(name),
         ["--help"] => write_out(help().as_bytes()),
         [] => return refuse("a word is missing"),
-        ["example" | "example-list" | "gate-sheet" | "model-cases"] => {
+        ["example" | "example-list" | "example-head" | "gate-sheet" | "model-cases"] => {
             return refuse(&format!("{}: the NAME is missing", words[0]))
         }
         _ => return refuse(&format!("not understood: {}", words.join(" "))),
@@ -139,6 +153,13 @@ fn column_answers() -> Result<(), String> {
     write_out(lines.as_bytes())
 }
 
+/// Writes nothing unless every case can be read.
+fn forecast_answers() -> Result<(), String> {
+    let cases = forecast::case::read_all(&read_in()?)?;
+    let lines: String = cases.iter().map(forecast::case::line).collect();
+    write_out(lines.as_bytes())
+}
+
 fn model_table(name: &str) -> Result<(), String> {
     let names = model_cases::NAMES.join(", ");
     let text = model_cases::text(name)
@@ -168,6 +189,17 @@ fn list_names() -> String {
     calls::examples::NAMES.join(", ")
 }
 
+fn example_head(name: &str) -> Result<(), String> {
+    let names = head_names();
+    let head = forecast::examples::named(name)
+        .ok_or_else(|| format!("no example head {name}; the heads are {names}"))?;
+    write_out(&head)
+}
+
+fn head_names() -> String {
+    forecast::examples::NAMES.join(", ")
+}
+
 fn gate_sheet(name: &str) -> Result<(), String> {
     let sheet = sheets::gate::named(name).ok_or_else(|| format!("no gate sheet {name}"))?;
     write_out(&sheet)
@@ -183,6 +215,7 @@ fn help() -> String {
     HELP.replace("TABLES", &model_cases::NAMES.join(", "))
         .replace("SHEETS", &example_names())
         .replace("LISTS", &list_names())
+        .replace("HEADS", &head_names())
 }
 
 fn read_in() -> Result<Vec<u8>, String> {

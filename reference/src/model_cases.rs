@@ -5,9 +5,10 @@ use crate::case::Case;
 use crate::cases::held as calls;
 use crate::columns::{held as turns, Way};
 use crate::compare::Entered;
+use crate::forecast::{forecast, held as heads};
 use crate::sheets::held::{self as sheets, Held, Left};
 
-pub const NAMES: [&str; 8] = [
+pub const NAMES: [&str; 9] = [
     "SheetCases",
     "ScriptCases",
     "RunCases",
@@ -16,6 +17,7 @@ pub const NAMES: [&str; 8] = [
     "EntryCases",
     "CallCases",
     "ColumnCases",
+    "ForecastCases",
 ];
 
 /// No line of a table is longer, but for a long comment.
@@ -69,6 +71,7 @@ pub fn text(name: &str) -> Option<String> {
             lists::all().iter().map(list_row).collect(),
         )),
         "ColumnCases" => Some(column_table()),
+        "ForecastCases" => Some(forecast_table()),
         _ => None,
     }
 }
@@ -78,6 +81,14 @@ fn column_table() -> String {
         "Request 3, \"One firm's shares together\": short inputs, and what turning them over and back leaves.",
         ("Entry", "columnCases"),
         turns::all().iter().map(turn_row).collect(),
+    )
+}
+
+fn forecast_table() -> String {
+    file(
+        "Request 6, \"Will this deal last?\": short headers with their scripts, and the number and the place that are foretold.",
+        ("ForecastCase", "forecastCases"),
+        heads::all().iter().map(forecast_row).collect(),
     )
 }
 
@@ -118,6 +129,7 @@ fn file(subject: &str, (kind, name): (&str, &str), rows: Vec<Row>) -> String {
         "took",
         "asColumns",
         "asSheet",
+        "foretold",
     ]);
     text += &format!("use Rattle.model.specs.CaseForms.{{{kind}{forms}}}\n\n");
     text + &format!("unfoldable pub {name} : List {kind}\n{name} =\n{body}    ∷ []\n")
@@ -315,6 +327,14 @@ fn turn_row(held: &turns::Held) -> Row {
     (held.says.clone(), row)
 }
 
+/// The input's bytes, the number and the place.
+fn forecast_row(held: &heads::Held) -> Row {
+    let (number, place) = forecast(&held.head);
+    let head = list(&held.head);
+    let row = vec![format!("foretold {head} {number} {place}")];
+    (held.says.clone(), row)
+}
+
 /// A long end that is as it was before is counted.
 fn output(numbers: &[u16]) -> String {
     let before: Vec<u16> = (turns::BEFORE..).take(numbers.len()).collect();
@@ -461,5 +481,7 @@ mod tests {
         assert!(text("EntryCases").unwrap().contains(row));
         let row = "    -- 1: no byte, to the sheet\n    ∷ asSheet [] 12 1 (from 100 12)\n";
         assert!(text("ColumnCases").unwrap().contains(row));
+        let row = "    -- 1: no byte\n    ∷ foretold [] 1 0\n";
+        assert!(text("ForecastCases").unwrap().contains(row));
     }
 }

@@ -1,4 +1,4 @@
-//! The numbers that the entries, the run, the import and the column form answer with.
+//! The numbers that the entries, the run, the import, the column form and the forecast answer with.
 
 /// The arguments are accepted; the script ran to its END.
 pub const NONE: u32 = 0;
@@ -8,7 +8,7 @@ pub const HEADER: u32 = 1;
 pub const FIELD: u32 = 2;
 /// The number of parties or the threshold is outside its range.
 pub const PARTIES: u32 = 3;
-/// A list or a sheet has the wrong length, or a count is over its limit.
+/// A list, a sheet or the input of a forecast has the wrong length, or a count is over its limit.
 pub const LENGTH: u32 = 4;
 /// A secret, coefficient, share or field value is not below the modulus.
 pub const VALUE: u32 = 5;

@@ -9,7 +9,7 @@ pub mod gate;
 mod good;
 pub mod held;
 pub mod stored;
-mod wrong;
+pub(crate) mod wrong;
 
 use crate::cases::generator::Generator;
 use crate::field::Field;

@@ -1,5 +1,5 @@
-//! The files of examples/sheets and examples/lists are those that the reference makes, and the documents
-//! quote them, the column form of a sheet, and runs with a party absent.
+//! The files of examples/sheets, examples/lists and examples/heads are those that the reference makes, and
+//! the documents quote them, the column form of a sheet, and runs with a party absent.
 
 mod files;
 
@@ -10,6 +10,8 @@ use reference::calls::case::printed;
 use reference::calls::examples as lists;
 use reference::columns::case::filling;
 use reference::columns::{to_columns, Way};
+use reference::forecast::examples as heads;
+use reference::forecast::printed as forecasts;
 use reference::present::{bit, everyone_of};
 use reference::run_case::Case;
 use reference::sheets::examples::{named, NAMES};
@@ -40,6 +42,20 @@ fn stored_lists_and_their_lines_are_those_of_the_reference() {
     assert_eq!(files.count(), 2 * lists::NAMES.len());
 }
 
+#[test]
+fn stored_heads_and_their_lines_are_those_of_the_reference() {
+    for name in heads::NAMES {
+        let head = heads::named(name).unwrap();
+        assert!(read(&format!("examples/heads/{name}.head")) == head);
+        assert_eq!(
+            text(&format!("examples/heads/{name}.txt")),
+            forecasts::lines(&head)
+        );
+    }
+    let files = fs::read_dir(path("examples/heads")).unwrap();
+    assert_eq!(files.count(), 2 * heads::NAMES.len());
+}
+
 /// The last line of an import, as `end 0 calls 3`.
 fn is_import_end(line: &str) -> bool {
     line.starts_with("end ") && line.contains(" calls ")
@@ -49,6 +65,23 @@ fn is_import_end(line: &str) -> bool {
 fn ends_an_import(line: &str) -> bool {
     let mut lists = lists::NAMES.into_iter().filter_map(lists::named);
     lists.any(|list| printed(list).lines().last() == Some(line))
+}
+
+/// A line of a forecast, as `end 0 at 37` without counts, or what it means in words.
+fn is_of_a_forecast(line: &str) -> bool {
+    let is_end = line.starts_with("end ") && line.contains(" at ") && !line.contains(" inputs ");
+    let words = ["The run comes to END. ", "The whole script needs "];
+    is_end
+        || words.iter().any(|words| line.starts_with(words))
+        || line.contains(" are left.")
+        || line.contains(" reads register ")
+}
+
+/// Whether the forecast of an example head or sheet has the line.
+fn is_forecast(line: &str) -> bool {
+    let heads = heads::NAMES.into_iter().filter_map(heads::named);
+    let mut all = heads.chain(NAMES.into_iter().filter_map(named));
+    all.any(|input| forecasts::lines(&input).lines().any(|it| it == line))
 }
 
 /// A line of a run, as `opened 5 6 7`.
@@ -168,6 +201,10 @@ impl Quoted {
     fn holds(&mut self, line: &str) -> bool {
         if is_import_end(line) {
             assert!(ends_an_import(line), "no example list ends so: {line}");
+            return true;
+        }
+        if is_of_a_forecast(line) {
+            assert!(is_forecast(line), "no example is forecast so: {line}");
             return true;
         }
         if is_of_the_programs(line) {

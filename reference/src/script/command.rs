@@ -23,6 +23,12 @@ pub enum Command {
 /// The number of operand bytes of each command, in the order of the command bytes.
 pub const OPERANDS: [usize; 14] = [0, 1, 5, 3, 3, 6, 3, 4, 4, 3, 7, 4, 1, 7];
 
+/// The paper's names, in the order of the command bytes.
+pub const NAMES: [&str; 14] = [
+    "END", "LOAD", "CONST", "ADD", "SUB", "SCALE", "MUL", "MOD", "TRUNC", "LTZ", "OVER", "BLOCKS",
+    "REVEAL", "BITLT",
+];
+
 /// What a finished command has taken.
 #[derive(Clone, Copy, Debug, Default, PartialEq)]
 pub struct Cost {

@@ -54,16 +54,22 @@ impl Header {
         right.then_some(()).ok_or(refusal::LENGTH)
     }
 
-    fn is_within_limits(&self) -> bool {
+    pub fn is_within_limits(&self) -> bool {
         self.inputs <= MOST_INPUTS
             && self.masks <= MOST_MASKS
             && self.triples <= MOST_TRIPLES
             && self.script <= LONGEST_SCRIPT
     }
 
-    fn implied_length(&self) -> usize {
+    /// The bytes of header and script.
+    pub fn head_length(&self) -> usize {
+        BYTES + self.script
+    }
+
+    /// The bytes of the whole sheet.
+    pub fn implied_length(&self) -> usize {
         let rows = self.inputs + self.masks * self.field.bits() as usize + 3 * self.triples;
-        BYTES + self.script + rows * 4 * self.parties
+        self.head_length() + rows * 4 * self.parties
     }
 }
 

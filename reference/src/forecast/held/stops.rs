@@ -1,0 +1,96 @@
+//! 21 to 24 where several commands stand: which is refused, and what those before it set and take.
+
+use super::{held, Draft, Held};
+use crate::script::command::Command::{self, *};
+
+pub fn all() -> Vec<Held> {
+    let mut all = unset();
+    all.extend(short());
+    all
+}
+
+/// In field 0 with so many input rows, masks and triples.
+fn of(says: &str, commands: &[Command], counts: [u16; 3]) -> Held {
+    held(says, Draft::of(0, commands).with_counts(counts))
+}
+
+fn unset() -> Vec<Held> {
+    let (d, a, b, w, v) = (0, 0, 0, 2, 1);
+    let load = Load { d };
+    let constant = [Const { d: 63, v }, Reveal { a: 63 }, Reveal { a: 63 }];
+    vec![
+        of(
+            "a constant is set, and REVEAL takes nothing",
+            &constant,
+            [0; 3],
+        ),
+        of("21: d = a is not set before", &[Add { d, a, b }], [0; 3]),
+        of(
+            "21: a is unset and b is set",
+            &[load, Sub { d, a: 1, b }],
+            [1, 0, 0],
+        ),
+        of(
+            "21: b is unset and a is set",
+            &[load, Mul { d, a, b: 1 }],
+            [1, 0, 1],
+        ),
+        of(
+            "21: the second bit of BITLT is unset",
+            &[load, Bitlt { d, b, w, v }],
+            [1, 0, 1],
+        ),
+        of(
+            "21 before 22: the first of two commands",
+            &[Reveal { a }, load],
+            [0; 3],
+        ),
+        of(
+            "22 before 21: the first of two commands",
+            &[load, Reveal { a: 1 }],
+            [0; 3],
+        ),
+    ]
+}
+
+fn short() -> Vec<Held> {
+    let (d, a, b, k, m, v) = (0, 0, 0, 2, 1, 1);
+    let (load, sign, remainder) = (Load { d }, Ltz { d, a, k }, Mod { d, a, k, m });
+    let squares = [load, Mul { d, a, b }, Mul { d, a, b }];
+    vec![
+        of("22: two LOADs on one input row", &[load, load], [1, 0, 0]),
+        of("two LOADs on two input rows", &[load, load], [2, 0, 0]),
+        of(
+            "21 before 23 and 24: MOD of an unset register",
+            &[remainder],
+            [0; 3],
+        ),
+        of(
+            "23 before 24: MOD without a mask and a triple",
+            &[load, remainder],
+            [1, 0, 0],
+        ),
+        of("23: two LTZs on one mask", &[load, sign, sign], [1, 1, 8]),
+        of(
+            "two LTZs on two masks and 8 triples",
+            &[load, sign, sign],
+            [1, 2, 8],
+        ),
+        of(
+            "24: two LTZs on two masks and 7 triples",
+            &[load, sign, sign],
+            [1, 2, 7],
+        ),
+        of(
+            "24: the second of two products on one triple",
+            &squares,
+            [1, 0, 1],
+        ),
+        of("two products on two triples", &squares, [1, 0, 2]),
+        of(
+            "BITLT with w = 1 takes no triple",
+            &[load, Bitlt { d, b, w: 1, v }],
+            [1, 0, 0],
+        ),
+    ]
+}
