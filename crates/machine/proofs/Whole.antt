@@ -28,6 +28,7 @@ use Rattle.sheet.specs.declared.header.Read.the-variants.{Sheet, Refused}
 use Rattle.sheet.specs.Framed.{settingIn, Framed, RunFramed}
 use Rattle.sheet.specs.Reading.{numberOf, Reads}
 use Rattle.sheet.proofs.Headers as Headers
+use Rattle.sheet.proofs.Scripts.{scriptPart, script-bytes, script-read}
 use Rattle.script.specs.Meaning.{scriptNumber, scriptPlace}
 use Rattle.costs.specs.Costing.{supplyIn}
 use Rattle.machine.specs.declared.run.Answer.{Answer}
@@ -157,32 +158,17 @@ unfolding runScript
 script-stops present s log shown (accepted xs end) z = absurd (z refl)
 script-stops present s log shown (refused number place) z = refl
 
--- the script's bytes, which end where the input rows start
-abbrev scriptPart : List ℕ → Frame → List ℕ
-scriptPart s f = take (f .input - (f .input - f .script)) (drop (f .input - f .script) s)
-
 module _ {s : List ℕ} {f : Frame} (K : Unrefused s f) where
-  script-bytes : scriptPart s f ≡ scriptIn (headerOf s) s
-  unfolding scriptIn
-  script-bytes =
-      let H = K .framed .headed in
-      let from : f .input - f .script ≡ headerSize (headerOf s) = omega (arith, H .inputs-place) in
-      let size : f .input - headerSize (headerOf s) ≡ headerOf s .script = omega (arith, H .inputs-place, H .script-is) in
-      rw (from, size)
-
-  script-read : scriptOf (f .p) (f .largest) (scriptPart s f) ≡ sheetScript s
-  script-read = let H = K .framed .headed in rw (H .p-is, H .k-is, script-bytes)
-
   -- by the script's number
   module _ {number : ℕ} (e : number ≡ scriptNumber (scriptOf (f .p) (f .largest) (scriptPart s f))) where
     number-is : number ≡ scriptNumber (sheetScript s)
-    number-is = e ∙ ap scriptNumber script-read
+    number-is = e ∙ ap scriptNumber (script-read s (K .framed .headed))
 
     pub script-refused : {place : ℕ} {a : Answer} {log shown : List ℕ} → place ≡ scriptPlace (scriptOf (f .p) (f .largest) (scriptPart s f)) → number ≢ 0
         → RefusedWith number place a → Answers (f .opening .present) s log shown a log shown
     unfolding stopOf
     script-refused {place} {a} {log} {shown} m z N =
-        let k : place ≡ scriptPlace (sheetScript s) = m ∙ ap scriptPlace script-read in
+        let k : place ≡ scriptPlace (sheetScript s) = m ∙ ap scriptPlace (script-read s (K .framed .headed)) in
         refused-answer (f .opening .present) s N (rw (K .number, number-is, k) (script-stops (f .opening .present) s (length log) (length shown) (sheetScript s) (λ q. z (number-is ∙ q))))
 
     pub running : number ≡ 0 → Running s f (scriptPart s f)
@@ -190,7 +176,7 @@ module _ {s : List ℕ} {f : Frame} (K : Unrefused s f) where
         record {
           framed = K .framed;
           is-accepted = accepted-sheet (f .opening .present) s (K .number) (sheetScript s) refl (sym number-is ∙ z);
-          script-is = script-bytes;
+          script-is = script-bytes s (K .framed .headed);
         }
 
   -- the stop of a run, as the answer says it

@@ -20,6 +20,7 @@ use Rattle.model.specs.Commands.{throughLines, registersFrom, command}
 use Rattle.model.specs.Run.{allSet, marked, check, pay, runLines, nothingSpent, start, written, outcome, runScript, stopOf, run}
 use Rattle.model.specs.Calls.{isTEXTDATA, alone, plain, quoted, field, isEnd, fields, readLine, isDigit, allDigits, decimalFrom, time, lasting, call, fourFields, lineAt, lineNumber, taken, imported}
 use Rattle.model.specs.Columns.{sharesFrom, regrouped, transposed, columnForm, sheetForm, shapeTests, outputTests, turnTests, outputLeft, partOf, sharesIn}
+use Rattle.model.specs.Forecast.{headLengthTests, headTests, linesForeseen, scriptForeseen, foreseen, forecast}
 use Rattle.model.specs.CaseForms.{registersSeen, seen, Hold}
 use Rattle.model.specs.SheetCases.{sheetCases}
 use Rattle.model.specs.ScriptCases.{scriptCases}
@@ -29,6 +30,7 @@ use Rattle.model.specs.PresentCases.{presentCases}
 use Rattle.model.specs.EntryCases.{entryCases}
 use Rattle.model.specs.CallCases.{callCases}
 use Rattle.model.specs.ColumnCases.{columnCases}
+use Rattle.model.specs.ForecastCases.{forecastCases}
 use Rattle.model.specs.Cases.{checks, partsSeen, weightsSeen, Cases}
 use Rattle.model.proofs.Laws.{laws}
 
@@ -47,9 +49,13 @@ pub columns-hold : Hold columnCases
 unfolding from onto number modulus bits inUse fieldTests settingTests parties headerOf headerSize maskBits limits impliedLength firstFailed headerTests limitTests lengthTests sharesFrom regrouped transposed columnForm sheetForm shapeTests outputTests turnTests outputLeft columnCases
 columns-hold = after calls-hold refl
 
+pub forecasts-hold : Hold forecastCases
+unfolding from modulus bits largestK inUse fieldTests settingTests parties number byteSays allPass numberAt readingAt scriptFrom scriptOf costBy headerOf headerSize maskBits largestIn limits scriptIn firstFailed headerTests limitTests headLengthTests headTests allSet marked check pay throughLines nothingSpent linesForeseen scriptForeseen foreseen forecast forecastCases
+forecasts-hold = after columns-hold refl
+
 pub scripts-hold : Hold scriptCases
 unfolding byRows add sub mul allBelow from onto tab row modulus bits largestK inUse fieldTests settingTests inverse parties bit presentIn everyone permittedSet eval share newton reciprocal slope interpolate recover secret sameList isSharing number rowAt byteSays allPass numberAt readingAt scriptFrom scriptOf costBy headerOf headerSize maskBits largestIn limits impliedLength scriptIn rowsAt masksFrom triplesFrom inputIn dealIn all maskRows tripleRows spell secrets goodMask goodTriple firstFailed headerTests presentTests limitTests lengthTests rowTests sheetTests bytesOf shareBytes allSet marked check pay command throughLines runLines nothingSpent start written outcome runScript stopOf run registersSeen seen scriptCases
-scripts-hold = after columns-hold refl
+scripts-hold = after forecasts-hold refl
 
 pub sheets-hold : Hold sheetCases
 unfolding byRows add sub mul allBelow from onto tab row modulus bits largestK inUse fieldTests settingTests inverse parties bit presentIn everyone permittedSet eval share newton reciprocal slope interpolate recover secret sameList isSharing number rowAt byteSays allPass numberAt readingAt scriptFrom scriptOf costBy headerOf headerSize maskBits largestIn limits impliedLength scriptIn rowsAt masksFrom triplesFrom inputIn dealIn all maskRows tripleRows spell secrets goodMask goodTriple firstFailed headerTests presentTests limitTests lengthTests rowTests sheetTests bytesOf shareBytes allSet marked check pay command throughLines runLines nothingSpent start written outcome runScript stopOf run registersSeen seen sheetCases
@@ -69,4 +75,4 @@ masked-hold = after presents-hold refl
 
 pub cases : Cases
 unfolding add sub mul total modulus inverse reciprocal ratio weight bit presentIn absentIn openers weightsSeen tab bits number headerOf headerSize maskBits bytesOf shareBytes sharesFrom regrouped transposed columnForm partOf sharesIn partsSeen from onto firstFailed allSet check checks isTEXTDATA alone plain quoted field isEnd fields readLine isDigit allDigits decimalFrom time lasting call fourFields lineAt lineNumber taken imported
-cases = record { sheets = sheets-hold; scripts = scripts-hold; runs = runs-hold; masked = masked-hold; presents = presents-hold; order = refl; entries = entries-hold; calls = calls-hold; columns = columns-hold; parts = refl; weights = refl; opened-of-five = refl; opened-of-seven = refl; values = refl; plain-names = refl; quoted-names = refl }
+cases = record { sheets = sheets-hold; scripts = scripts-hold; runs = runs-hold; masked = masked-hold; presents = presents-hold; order = refl; entries = entries-hold; calls = calls-hold; columns = columns-hold; forecasts = forecasts-hold; parts = refl; weights = refl; opened-of-five = refl; opened-of-seven = refl; values = refl; plain-names = refl; quoted-names = refl }

@@ -38,7 +38,7 @@ abbrev Late : Script → Type 0
 Late (accepted xs end) = Unit {0}
 Late (refused number place) = From 9 11 number
 
-script-late : (p K : ℕ) (s : List ℕ) {number place : ℕ} → scriptOf p K s ≡ refused number place → From 9 11 number
+pub script-late : (p K : ℕ) (s : List ℕ) {number place : ℕ} → scriptOf p K s ≡ refused number place → From 9 11 number
 unfolding scriptOf
 script-late p K s e =
     subst Late e

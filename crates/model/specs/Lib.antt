@@ -45,4 +45,5 @@ pub mod PresentCases
 pub mod EntryCases
 pub mod CallCases
 pub mod ColumnCases
+pub mod ForecastCases
 pub mod Cases

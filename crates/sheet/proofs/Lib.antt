@@ -3,3 +3,4 @@ pub mod Words
 pub mod Spelling
 pub mod Headers
 pub mod Answers
+pub mod Scripts
