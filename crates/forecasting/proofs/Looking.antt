@@ -90,14 +90,14 @@ module _ {f : Frame} {script : List ℕ} {supply : Counts} {k : Spent} {at : ℕ
     -- a command
     module _ {c : Command} {next : ℕ} (q : d ≡ Found c next) where
       pub closer : length script - next < length script - at
-      closer = Lines.closer (f .p) (f .largest) script at (L .left) e q
+      closer = Lines.closer (f .p) (f .largest) script at e q
 
       tried : Tried f (ownSupply supply) supply k (meant c)
       tried =
           record {
             bits = L .bits;
             k-most = L .k-most;
-            ranged = in-range (f .p) (f .largest) script at (L .left) e q;
+            ranged = in-range (f .p) (f .largest) script at e q;
             supplied = own-supplied supply;
             words = L .words;
             within = L .within;

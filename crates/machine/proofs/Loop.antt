@@ -124,7 +124,7 @@ module _ {s : List ℕ} {f : Frame} {script log₀ shown₀ : List ℕ} {supply 
     -- a command
     module _ {c : Command} {next : ℕ} (q : d ≡ Found c next) where
       pub closer : length script - next < length script - at
-      closer = Lines.closer (f .p) (f .largest) script at (L .left) e q
+      closer = Lines.closer (f .p) (f .largest) script at e q
 
       abbrev others : List Line
       others = Lines.others (f .p) (f .largest) script at (L .left) e q
@@ -142,7 +142,7 @@ module _ {s : List ℕ} {f : Frame} {script log₀ shown₀ : List ℕ} {supply 
                 record {
                   bits = omega (arith, fitting (L .running .framed) .bits);
                   k-most = omega (arith, field-of (L .running .framed) .k-most);
-                  ranged = in-range (f .p) (f .largest) script at (L .left) e q;
+                  ranged = in-range (f .p) (f .largest) script at e q;
                   supplied = rw (L .same-log, L .same-shown) (L .supplied);
                   words = L .words;
                   within = L .within;

@@ -52,6 +52,17 @@ unfolding lines-in end-in line-here
 line-is x (accepted ys end′) e = (sym (ap lines-in e), ap (accepted ys) (ap end-in e))
 line-is x (refused n i) e = absurd (not-refused e)
 
+-- where the decoder answers with a command
+module _ (p K : ℕ) (s : List ℕ) (at : ℕ) {d : Decoded} (e : standingOf d ≡ standing (readingAt p K s at) (length s) at) {c : Command} {next : ℕ} (q : d ≡ Found c next) where
+  here : readingAt p K s at ≡ says (meant c) next
+  here = goes-on (readingAt p K s at) (length s) at (sym (ap standingOf q) ∙ e)
+
+  pub closer : length s - next < length s - at
+  closer = nearer p K s at here
+
+  pub in-range : T (inRanges p K (meant c))
+  in-range = read p K s at (says (meant c) next) here .in-range
+
 -- the lines xs are left from a place on, by what the decoder answers there
 module _ (p K : ℕ) (s : List ℕ) (at : ℕ) {xs : List Line} {end : ℕ} (left : from p K s at ≡ accepted xs end) {d : Decoded}
     (e : standingOf d ≡ standing (readingAt p K s at) (length s) at) where
@@ -66,25 +77,16 @@ module _ (p K : ℕ) (s : List ℕ) (at : ℕ) {xs : List Line} {end : ℕ} (lef
 
   -- a command: its line comes first, and the others are left from the place after it on
   module _ {c : Command} {next : ℕ} (q : d ≡ Found c next) where
-    here : readingAt p K s at ≡ says (meant c) next
-    here = goes-on (readingAt p K s at) (length s) at (sym (ap standingOf q) ∙ e)
-
-    pub closer : length s - next < length s - at
-    closer = nearer p K s at here
-
-    pub in-range : T (inRanges p K (meant c))
-    in-range = read p K s at (says (meant c) next) here .in-range
-
-    abbrev pub line : Line
+    abbrev line : Line
     line = record { place = at; command = meant c }
 
     is-line : withLine line (from p K s next) ≡ accepted xs end
-    is-line = sym (from-next p K s at here) ∙ left
+    is-line = sym (from-next p K s at (here p K s at e q)) ∙ left
 
     pub others : List Line
     others = line-here line (from p K s next) is-line
 
-    pub line-first : xs ≡ line ∷ others
+    pub line-first : xs ≡ record { place = at; command = meant c } ∷ others
     unfolding others
     line-first = line-is line (from p K s next) is-line .0
 

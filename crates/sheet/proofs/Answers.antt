@@ -80,9 +80,6 @@ run-headed-read present s q H = (headed-read s q (H .0), H .1)
 
 -- The length, by a frame, and a test over all rows.
 module _ {h : Header} {f : Frame} (H : Headed h f) (s : List ℕ) where
-  pub length-decides : eqb (length s) (f .triple + 4 * f .n * 3 * f .triples) ≡ eqb (length s) (impliedLength h)
-  length-decides = ap (eqb (length s)) (end-is H)
-
   pub rows-told : (g : Row → Bool) (count : ℕ) {a b : Bool} → count ≡ f .inputs + f .l * f .masks + 3 * f .triples
       → a ≡ all g (rowsAt s (f .n) (f .input) count) → a ≡ b → all g (inputsOf s f ++ dealRows (dealOf s f)) ≡ b
   rows-told g count k e q = rw (rows-are H s) (told (rw k at e) q)

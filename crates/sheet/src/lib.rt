@@ -32,12 +32,20 @@ pub fn read_sheet(s: &[u8], present: u32) -> Read
     read
 }
 
+// The length that the header of a sheet implies.
+pub fn implied_length(s: &[u8], f: Frame) -> usize
+    requires { ⌜ Headed (Sheet.headerOf (now s)) f ⌝ }
+    ensures { λ r. ⌜ r ≡ Sheet.impliedLength (Sheet.headerOf (now (s .entry))) ⌝ }
+{
+    f.triple + 4 * f.n * 3 * f.triples
+}
+
 // Whether the sheet is as long as its header implies.
 pub fn has_implied_length(s: &[u8], f: Frame) -> bool
     requires { ⌜ Headed (Sheet.headerOf (now s)) f ⌝ }
     ensures { λ r. ⌜ r ≡ eqb (length (now (s .entry))) (Sheet.impliedLength (Sheet.headerOf (now (s .entry)))) ⌝ }
 {
-    s.len() == f.triple + 4 * f.n * 3 * f.triples
+    s.len() == implied_length(s, f)
 }
 
 // 4 for the sheet's length, then 5 to 8, or 0.

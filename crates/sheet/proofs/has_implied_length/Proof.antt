@@ -1,16 +1,14 @@
--- `has_implied_length` meets its contract: the frame's end is the length that the header implies.
+-- `has_implied_length` meets its contract.
 -- Assumes nothing.
-use Rattle.sheet.proofs.Headers.{end-most}
-use Rattle.sheet.proofs.Answers.{length-decides}
+use mathlib.Core.Path.{_≡_, ap}
+use Prim.Native.Nat.{ℕ}
+use lib.Dec.{eqb}
 use borrow.Author.Needs.{needs}
 use Rattle.sheet.proofs.has_implied_length.Statement.{statement}
 use Rattle.sheet.proofs.has_implied_length.Tie as tie
 
-mul-result-3 : tie.Need-mul-result-3
-mul-result-3 c = let m = end-most (c .before .before .pre) in search needs
-
-add-result : tie.Need-add-result
-add-result c = let m = end-most (c .before .before .before .pre) in search needs
+same-test : (n : ℕ) {a b : ℕ} → a ≡ b → eqb n a ≡ eqb n b
+same-test n e = ap (eqb n) e
 
 pub has-implied-length-spec : {M : Type 1} → statement M
-has-implied-length-spec = tie.close (tie.spec (λ c. search needs) (λ c. search needs) mul-result-3 add-result (λ c. search (needs, length-decides)))
+has-implied-length-spec = tie.close (tie.spec (λ c κs. search needs) (λ c. search (needs, same-test)))
