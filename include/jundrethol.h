@@ -1,5 +1,5 @@
-/* Jundrethol: Shamir shares, scripts that work on them, calls from an exchange's list, and sheets turned so that each party's shares stand together,
- * for C on x86-64 Linux.
+/* Jundrethol: Shamir shares, scripts that work on them, forecasts of whether a script would come to its end, calls from an exchange's list, and
+ * sheets turned so that each party's shares stand together, for C on x86-64 Linux.
  *
  * Link target/staticlib/libjundrethol.a, which `rt staticlib jundrethol` writes. Each function is proved to give exactly the answer that its
  * contract in crates/jundrethol/src/lib.rt fixes, to end, and not to fault, whatever the numbers, the bytes and the lengths are. Nothing is
@@ -35,16 +35,16 @@ extern "C" {
  * may add functions, refusals, and counts after the last, and may accept what was refused with 1 to 20, but for 15: an output that is shorter
  * than the input stays refused. Where the first number grows, the second starts at 0. */
 #define JUNDRETHOL_VERSION_MAJOR 3
-#define JUNDRETHOL_VERSION_MINOR 0
+#define JUNDRETHOL_VERSION_MINOR 1
 
 /* What every function answers: 0, or the first of the others that applies. 12 comes after 3 and before 4. */
 #define JUNDRETHOL_DONE 0
 
-/* The input is refused, or the output for it, or who is present, and nothing is run or turned. */
-#define JUNDRETHOL_NO_HEADER 1     /* the sheet or column form has fewer than 11 bytes */
+/* The input is refused, or the output for it, or who is present, and nothing is run or turned. A forecast answers 1 to 4 and 9 to 11 of these. */
+#define JUNDRETHOL_NO_HEADER 1     /* the sheet, the column form or the head has fewer than 11 bytes */
 #define JUNDRETHOL_BAD_FIELD 2     /* the field is over 3 */
 #define JUNDRETHOL_BAD_PARTIES 3   /* n is not from 3 to 7, t is below 1, or 2t + 1 is over n */
-#define JUNDRETHOL_BAD_LENGTH 4    /* a count is over its limit, or a list, the sheet or the column form has the wrong length */
+#define JUNDRETHOL_BAD_LENGTH 4    /* a count is over its limit, or a list, the sheet, the column form or the head has the wrong length */
 #define JUNDRETHOL_NOT_BELOW_P 5   /* a secret, coefficient, share or field value is not below p */
 #define JUNDRETHOL_NO_SHARING 6    /* a row is no sharing */
 #define JUNDRETHOL_BAD_MASK 7      /* a mask is not well formed */
@@ -55,7 +55,7 @@ extern "C" {
 #define JUNDRETHOL_BAD_PRESENT 12  /* a bit beyond n is set in present, or fewer than t + 1 parties are present */
 #define JUNDRETHOL_OUTPUT_SHORT 15 /* the output is shorter than the input */
 
-/* A command is refused because of the state: those before it stand, and it changes nothing. */
+/* A command is refused because of the state: those before it stand, and it changes nothing. A forecast answers 21 to 24 where a run would. */
 #define JUNDRETHOL_UNSET 21           /* a register that is read is unset */
 #define JUNDRETHOL_NO_INPUT 22        /* no input row is left */
 #define JUNDRETHOL_NO_MASK 23         /* no mask is left */
@@ -118,6 +118,22 @@ uint32_t jundrethol_run(
     uint32_t *registers, size_t registers_length,
     uint8_t *marks, size_t marks_length,
     uint64_t *counts, size_t counts_length);
+
+/* Forecasts from header and script alone how a run would end: whether it would come to END, given large enough buffers.
+ *
+ * head   is the head of a sheet: header and script, which are the sheet's first 11 + script length bytes, and no byte more. It holds no share.
+ * place  gets the place. It is one number, not a list.
+ *
+ * Number and place are those of jundrethol_run, for every sheet that begins with this head, has the length that the header implies and is not
+ * refused with 5 to 8; with everyone present or any other set that 12 does not refuse; and with JUNDRETHOL_RECORD_LENGTH numbers for record
+ * and JUNDRETHOL_REVEALED_LENGTH for revealed, or more.
+ *
+ * Answers 0, and the place is END's offset in the script. 1, 2, 3 or 4, at place 0: 4 says that a count is over its limit, or that head_length
+ * is not 11 + script length, so a whole sheet that has a row is 4. 9, 10 or 11, at the offset of what is refused; they are tried over the whole
+ * script before 21 to 24. 21, 22, 23 or 24, at the offset of the command that would be refused. It answers no other number. 0 says nothing of a
+ * sheet's length and shares, of who is present or of shorter buffers: a run may still answer 4 to 8, 12, 25 or 26.
+ */
+uint32_t jundrethol_forecast(uint64_t *place, const uint8_t *head, size_t head_length);
 
 /* Shares a secret among n parties with t coefficients, the first power's first: share j goes to shares[j - 1]. The lengths are exactly t and
  * n. Answers 0, or a refusal 2, 3, 4 or 5, which writes nothing. */

@@ -1,6 +1,6 @@
-/* The paper's MUL sheet run through the C ABI, and once more with a firm's machine down; a secret shared, recovered and summed, numbers encoded and
- * decoded, calls taken from an exchange's list, and the sheet cut into the parties' parts and put together again. Exits with 1 if an answer is
- * wrong. */
+/* The paper's MUL sheet through the C ABI: how its run would end, the run, and the run once more with a firm's machine down; a secret shared, recovered
+ * and summed, numbers encoded and decoded, calls taken from an exchange's list, and the sheet cut into the parties' parts and put together again. Exits
+ * with 1 if an answer is wrong. */
 #include <inttypes.h>
 #include <stdio.h>
 #include <stdlib.h>
@@ -8,8 +8,8 @@
 
 #include "jundrethol.h"
 
-#if JUNDRETHOL_VERSION_MAJOR != 3
-#error "written for version 3 of the library"
+#if JUNDRETHOL_VERSION_MAJOR != 3 || JUNDRETHOL_VERSION_MINOR < 1
+#error "written for version 3 of the library, from 3.1 on"
 #endif
 
 #define COUNT(list) (sizeof(list) / sizeof((list)[0]))
@@ -30,13 +30,15 @@ static size_t put_shares(uint8_t *sheet, size_t at, const uint32_t *shares, size
     return at + 4 * count;
 }
 
-/* Header, script, two input rows and a triple's three. */
+/* The head of the sheet: header and script. */
+static const uint8_t head[] = {
+    0, 3, 1, 2, 0, 0, 0, 1, 0, 11, 0,              /* field 0, n 3, t 1; 2 inputs, 0 masks, 1 triple, a script of 11 bytes */
+    0x01, 0, 0x01, 1, 0x06, 2, 0, 1, 0x0C, 2, 0x00 /* LOAD 0, LOAD 1, MUL 2 0 1, REVEAL 2, END */
+};
+
+/* Its head, two input rows and a triple's three. */
 static size_t make_sheet(uint8_t *sheet)
 {
-    static const uint8_t head[] = {
-        0, 3, 1, 2, 0, 0, 0, 1, 0, 11, 0,              /* field 0, n 3, t 1; 2 inputs, 0 masks, 1 triple, a script of 11 bytes */
-        0x01, 0, 0x01, 1, 0x06, 2, 0, 1, 0x0C, 2, 0x00 /* LOAD 0, LOAD 1, MUL 2 0 1, REVEAL 2, END */
-    };
     static const uint32_t rows[] = {7, 9, 11, 7, 11, 2, 2, 3, 4, 5, 8, 11, 7, 12, 4};
     for (size_t i = 0; i < COUNT(head); i++)
         sheet[i] = head[i];
@@ -93,6 +95,26 @@ static void run_with(uint8_t present, struct ran *ran)
     static uint8_t sheet[128], marks[JUNDRETHOL_MARKS_LENGTH];
     ran->number = jundrethol_run(sheet, make_sheet(sheet), present, ran->record, COUNT(ran->record), ran->revealed, COUNT(ran->revealed),
                                  ran->registers, COUNT(ran->registers), marks, COUNT(marks), ran->counts, COUNT(ran->counts));
+}
+
+static void forecast_run(void)
+{
+    static uint8_t sheet[128];
+    static struct ran ran;
+    uint8_t without[COUNT(head)];
+    uint64_t place = 99;
+    uint32_t number = jundrethol_forecast(&place, head, COUNT(head));
+    printf("forecast: end %" PRIu32 " at %" PRIu64 "\n", number, place);
+    expect(number == JUNDRETHOL_DONE && place == 10, "the run comes to END");
+    run_with(EVERYONE, &ran);
+    expect(ran.number == number && ran.counts[JUNDRETHOL_COUNT_PLACE] == place, "the run ends as forecast");
+    /* The same head with no triple. */
+    memcpy(without, head, COUNT(head));
+    without[7] = 0;
+    number = jundrethol_forecast(&place, without, COUNT(without));
+    printf("forecast without the triple: end %" PRIu32 " at %" PRIu64 "\n", number, place);
+    expect(number == JUNDRETHOL_TOO_FEW_TRIPLES && place == 4, "MUL takes a triple");
+    expect(jundrethol_forecast(&place, sheet, make_sheet(sheet)) == JUNDRETHOL_BAD_LENGTH && place == 0, "a whole sheet is longer than its head");
 }
 
 static void run_with_a_firm_absent(void)
@@ -256,6 +278,7 @@ static void cut_and_join(void)
 
 int main(void)
 {
+    forecast_run();
     run_sheet();
     run_with_a_firm_absent();
     share_and_recover();

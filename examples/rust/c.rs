@@ -17,6 +17,8 @@ extern "C" {
         counts_length: usize,
     ) -> u32;
 
+    pub fn jundrethol_forecast(place: *mut u64, head: *const u8, head_length: usize) -> u32;
+
     pub fn jundrethol_share(
         field: u32,
         n: u32,

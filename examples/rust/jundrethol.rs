@@ -58,6 +58,13 @@ pub fn run_lent(
     }
 }
 
+/// Number and place with which a run of a sheet with this header and script would end.
+pub fn forecast(head: &[u8]) -> (u32, u64) {
+    let mut place = 0;
+    let number = unsafe { c::jundrethol_forecast(&mut place, head.as_ptr(), head.len()) };
+    (number, place)
+}
+
 /// A refusal's number is the error.
 fn answer<T>(number: u32, value: T) -> Result<T, u32> {
     if number == 0 { Ok(value) } else { Err(number) }

@@ -1,6 +1,6 @@
-//! The paper's MUL sheet run through the C ABI, and once more with a firm's machine down; a secret shared, recovered and summed, numbers encoded and
-//! decoded, calls taken from an exchange's list, and the sheet cut into the parties' parts and put together again. Exits with 1 if an answer is
-//! wrong.
+//! The paper's MUL sheet through the C ABI: how its run would end, the run, and the run once more with a firm's machine down; a secret shared, recovered
+//! and summed, numbers encoded and decoded, calls taken from an exchange's list, and the sheet cut into the parties' parts and put together again. Exits
+//! with 1 if an answer is wrong.
 mod jundrethol;
 
 use std::process::exit;
@@ -12,12 +12,18 @@ fn expect(holds: bool, what: &str) {
     }
 }
 
-/// Header, script, two input rows and a triple's three.
-fn make_sheet() -> Vec<u8> {
+/// The head of the sheet: header and script.
+fn make_head() -> Vec<u8> {
     // field 0, n 3, t 1; 2 inputs, 0 masks, 1 triple, a script of 11 bytes
-    let mut sheet = vec![0, 3, 1, 2, 0, 0, 0, 1, 0, 11, 0];
+    let mut head = vec![0, 3, 1, 2, 0, 0, 0, 1, 0, 11, 0];
     // LOAD 0, LOAD 1, MUL 2 0 1, REVEAL 2, END
-    sheet.extend([0x01, 0, 0x01, 1, 0x06, 2, 0, 1, 0x0C, 2, 0x00]);
+    head.extend([0x01, 0, 0x01, 1, 0x06, 2, 0, 1, 0x0C, 2, 0x00]);
+    head
+}
+
+/// Its head, two input rows and a triple's three.
+fn make_sheet() -> Vec<u8> {
+    let mut sheet = make_head();
     for share in [7u32, 9, 11, 7, 11, 2, 2, 3, 4, 5, 8, 11, 7, 12, 4] {
         sheet.extend(share.to_le_bytes());
     }
@@ -54,6 +60,21 @@ fn run_with(present: u8) -> (jundrethol::Ran, [u32; 9], u32) {
     let (mut record, mut revealed) = ([0; 9], [0; 1]);
     let ran = jundrethol::run(&make_sheet(), present, &mut record, &mut revealed);
     (ran, record, revealed[0])
+}
+
+fn forecast_run() {
+    let mut head = make_head();
+    let (number, place) = jundrethol::forecast(&head);
+    println!("forecast: end {number} at {place}");
+    expect((number, place) == (0, 10), "the run comes to END");
+    let (ran, ..) = run_with(EVERYONE);
+    expect((ran.number, ran.counts[0]) == (number, place), "the run ends as forecast");
+    // The same head with no triple.
+    head[7] = 0;
+    let (number, place) = jundrethol::forecast(&head);
+    println!("forecast without the triple: end {number} at {place}");
+    expect((number, place) == (24, 4), "MUL takes a triple");
+    expect(jundrethol::forecast(&make_sheet()) == (4, 0), "a whole sheet is longer than its head");
 }
 
 fn run_with_a_firm_absent() {
@@ -178,6 +199,7 @@ fn cut_and_join() {
 }
 
 fn main() {
+    forecast_run();
     run_sheet();
     run_with_a_firm_absent();
     share_and_recover();
