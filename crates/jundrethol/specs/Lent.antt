@@ -1,5 +1,5 @@
 -- What the C ABI leaves in lists that C lends: the paper gives registers, marks and counts no lent list, so what a short one takes is said here; and an
--- import as C gets it.
+-- import and a forecast as C gets them.
 -- Assumes nothing.
 use mathlib.Core.Path.{_≡_}
 use mathlib.Core.Bool.{Bool, cond}
@@ -11,6 +11,7 @@ use Rattle.model.specs.Steps.{Row}
 use Rattle.model.specs.Counts.{listed}
 use Rattle.model.specs.Run.{Outcome}
 use Rattle.model.specs.Calls.{Imported}
+use Rattle.model.specs.Forecast.{Forecast}
 use Rattle.costs.specs.Costing.{countsOf}
 use Rattle.machine.specs.declared.run.Answer.{Answer}
 
@@ -47,3 +48,7 @@ pub record Handed (o : Outcome) (n : ℕ) (log₁ shown₁ cells₀ cells₁ mar
 -- an import: the number, how many calls were written, and the list of their seconds to its last number
 abbrev pub asImported : ℕ → ℕ → List ℕ → Imported
 asImported number calls seconds = record { number = number; calls = calls; out = seconds }
+
+-- a forecast: the number, and the place
+abbrev pub asForetold : ℕ → ℕ → Forecast
+asForetold number place = record { number = number; place = place }
