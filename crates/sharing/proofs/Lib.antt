@@ -1,5 +1,4 @@
 pub mod Sums
-pub mod Presences
 pub mod Opened
 pub mod Horner
 pub mod Testing

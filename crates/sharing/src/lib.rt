@@ -1,7 +1,6 @@
 // Shamir's sharing: rows of shares, their secrets, and the entries share, recover and sum.
 pub mod opening;
 pub mod polynomial;
-pub mod presence;
 pub mod rows;
 pub mod secret;
 pub mod setting;

@@ -8,18 +8,6 @@ ghost use Rattle.model.specs.Fields as Fields;
 ghost use Rattle.model.specs.Sharing as Sharing;
 use crate::rows::Row;
 
-// Four to a count e: the binomial coefficients e over 1 to e over 4.
-const BINOMIALS: [u32; 16] = [1, 0, 0, 0, 2, 1, 0, 0, 3, 3, 1, 0, 4, 6, 4, 1];
-
-// The Lagrange weight at 0 of party x among parties 1 to e, below p. It is the binomial coefficient e over x, with a minus where x is even.
-pub fn weight(p: u32, e: usize, x: usize) -> u32
-    requires { ⌜ Fields.Modulus p × (1 ≤ x) × (x ≤ e) × (e ≤ 4) ⌝ }
-    ensures { λ r. ⌜ (r ≡ Sharing.weight p (from 1 e) x) × (r < p) ⌝ }
-{
-    let binomial = BINOMIALS[4 * (e - 1) + (x - 1)];
-    if x % 2 == 1 { binomial } else { p - binomial }
-}
-
 pub fn wide(x: u32) -> u64
     ensures { λ r. ⌜ (r ≡ x) × (r < 2 ^ 32) ⌝ }
 {
@@ -35,7 +23,7 @@ fn weighted_sum(p: u32, e: usize, row: Row, i: usize) -> u64
     let mut sum: u64 = 0;
     let mut x: usize = 0;
     while x < e {
-        sum += wide(weight(p, e, x + 1)) * wide(row.shares[i + x]);
+        sum += wide(presence::weight(p, e, x + 1)) * wide(row.shares[i + x]);
         x += 1;
     }
     sum
