@@ -1,12 +1,12 @@
--- `secret::weighted_sum` meets its contract. The loop's invariant: the first x terms are summed.
+-- `weighted_sum` meets its contract. The loop's invariant: the first x terms are summed.
 -- Assumes nothing.
 use Prim.Native.Nat.{_+_, _-_, _*_, _^_, _<_}
-use Rattle.sharing.proofs.Sums.{Summing, summing-start, summing-more, summing-fits, summing-end}
+use Rattle.secret.proofs.Sums.{Summing, summing-start, summing-more, summing-fits, summing-end}
 use borrow.Author.Needs.{needs}
 use mathlib.Core.Path.{_∙_}
 use native.Mathlib.Omega.{arith}
-use Rattle.sharing.proofs.secret.weighted_sum.Statement.{statement}
-use Rattle.sharing.proofs.secret.weighted_sum.Tie as tie
+use Rattle.secret.proofs.weighted_sum.Statement.{statement}
+use Rattle.secret.proofs.weighted_sum.Tie as tie
 
 abbrev Inv-loop : tie.InvT-loop
 Inv-loop p e i row sum₀ x₀ sum x = Summing p e (row .shares) i x sum

@@ -1,8 +1,8 @@
--- `secret::value_before` meets its contract: the sum, reduced.
+-- `value_before` meets its contract: the sum, reduced.
 -- Assumes nothing.
 use borrow.Author.Needs.{needs}
-use Rattle.sharing.proofs.secret.value_before.Statement.{statement}
-use Rattle.sharing.proofs.secret.value_before.Tie as tie
+use Rattle.secret.proofs.value_before.Statement.{statement}
+use Rattle.secret.proofs.value_before.Tie as tie
 
 returns : tie.Need-returns
 returns c = let r = c .reduce-sum in (rw (← (c .before .weighted-sum .ensures)) (r .ensures .0), r .ensures .1)

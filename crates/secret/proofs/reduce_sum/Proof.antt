@@ -1,11 +1,11 @@
--- `secret::reduce_sum` meets its contract: a remainder by p is below p.
+-- `reduce_sum` meets its contract: a remainder by p is below p.
 -- Assumes nothing.
 use Prim.Native.Nat.{_%_, _<_}
 use borrow.Author.Needs.{needs}
 use native.Mathlib.Nat.{mod-lt}
 use native.Mathlib.Omega.{arith}
-use Rattle.sharing.proofs.secret.reduce_sum.Statement.{statement}
-use Rattle.sharing.proofs.secret.reduce_sum.Tie as tie
+use Rattle.secret.proofs.reduce_sum.Statement.{statement}
+use Rattle.secret.proofs.reduce_sum.Tie as tie
 
 low : (c : tie.After-wide) → c .before .args .sum % c .wide .result < c .before .args .p
 low c = rw (c .wide .ensures .0) (mod-lt _ (omega arith))

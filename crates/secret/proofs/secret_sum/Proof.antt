@@ -1,10 +1,10 @@
--- `secret::secret_sum` meets its contract: the weighted sum of the shares of parties 1 to t + 1.
+-- `secret_sum` meets its contract: the weighted sum of the shares of parties 1 to t + 1.
 -- Assumes nothing.
-use Rattle.sharing.proofs.Sums.{sum-from-first}
+use Rattle.secret.proofs.Sums.{sum-from-first}
 use borrow.Author.Needs.{needs}
 use mathlib.Core.Path.{_∙_}
-use Rattle.sharing.proofs.secret.secret_sum.Statement.{statement}
-use Rattle.sharing.proofs.secret.secret_sum.Tie as tie
+use Rattle.secret.proofs.secret_sum.Statement.{statement}
+use Rattle.secret.proofs.secret_sum.Tie as tie
 
 returns : tie.Need-returns
 returns c = c .weighted-sum .ensures ∙ sum-from-first _ _ _

@@ -6,7 +6,11 @@ ghost use Rattle.algebra.specs.Lists.{from, allBelow};
 ghost use Rattle.algebra.specs.Rows as Rows;
 ghost use Rattle.model.specs.Fields as Fields;
 ghost use Rattle.model.specs.Sharing as Sharing;
-use crate::rows::Row;
+
+// A row by value: seven cells, of which the first n are the shares of parties 1 to n and the others 0.
+pub struct Row {
+    pub shares: [u32; 7],
+}
 
 pub fn wide(x: u32) -> u64
     ensures { λ r. ⌜ (r ≡ x) × (r < 2 ^ 32) ⌝ }

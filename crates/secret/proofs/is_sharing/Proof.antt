@@ -1,14 +1,14 @@
--- `secret::is_sharing` meets its contract. The loop's invariant: each share before place i is what the t + 1 after it give.
+-- `is_sharing` meets its contract. The loop's invariant: each share before place i is what the t + 1 after it give.
 -- Assumes nothing.
 use Prim.Native.Nat.{ℕ, _-_, _≤_, _<_}
 use Rattle.model.proofs.Extrapolation.{before}
 use Rattle.model.specs.Sharing.{at}
-use Rattle.sharing.proofs.Testing.{at-place, steps-more, passes, fails-below, fails-at}
+use Rattle.secret.proofs.Testing.{at-place, steps-more, passes, fails-below, fails-at}
 use borrow.Author.Needs.{needs}
 use mathlib.Core.Path.{_≡_, refl, sym, _∙_}
 use native.Mathlib.Omega.{arith}
-use Rattle.sharing.proofs.secret.is_sharing.Statement.{statement}
-use Rattle.sharing.proofs.secret.is_sharing.Tie as tie
+use Rattle.secret.proofs.is_sharing.Statement.{statement}
+use Rattle.secret.proofs.is_sharing.Tie as tie
 
 abbrev Inv-loop : tie.InvT-loop
 Inv-loop p n t row e i₀ i = (1 ≤ i) × (i ≤ n) × ((z : ℕ) → 1 ≤ z → z < i → before p e (row .shares) z ≡ at 0 (row .shares) z)

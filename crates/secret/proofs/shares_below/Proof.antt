@@ -1,4 +1,4 @@
--- `secret::shares_below` meets its contract. The loop's invariant: the test of all n shares is the test of those that are left.
+-- `shares_below` meets its contract. The loop's invariant: the test of all n shares is the test of those that are left.
 -- Assumes nothing.
 use Prim.Native.Nat.{_-_, _≤_}
 use Rattle.algebra.proofs.Rows.{tab-below-more, tab-below-fails, tab-below-end}
@@ -8,8 +8,8 @@ use borrow.Author.Needs.{needs}
 use lib.ListN.{getD, drop}
 use mathlib.Core.Path.{_≡_, refl, sym, _∙_}
 use native.Mathlib.Omega.{arith}
-use Rattle.sharing.proofs.secret.shares_below.Statement.{statement}
-use Rattle.sharing.proofs.secret.shares_below.Tie as tie
+use Rattle.secret.proofs.shares_below.Statement.{statement}
+use Rattle.secret.proofs.shares_below.Tie as tie
 
 abbrev Inv-loop : tie.InvT-loop
 Inv-loop p n row j₀ j = (j ≤ n) × (allBelow p (tab n (λ k. getD (row .shares) k 0)) ≡ allBelow p (drop j (tab n (λ k. getD (row .shares) k 0))))

@@ -1,11 +1,11 @@
--- `secret::secret_of` meets its contract: the secret is the sum, reduced last.
+-- `secret_of` meets its contract: the secret is the sum, reduced last.
 -- Assumes nothing.
 use Rattle.model.proofs.SumFirst.{sum-secret}
 use borrow.Author.Needs.{needs}
 use mathlib.Core.Path.{_∙_}
 use native.Mathlib.Omega.{arith}
-use Rattle.sharing.proofs.secret.secret_of.Statement.{statement}
-use Rattle.sharing.proofs.secret.secret_of.Tie as tie
+use Rattle.secret.proofs.secret_of.Statement.{statement}
+use Rattle.secret.proofs.secret_of.Tie as tie
 
 returns : tie.Need-returns
 returns c =
