@@ -5,7 +5,7 @@ ghost use lib.ListN.{length};
 ghost use Rattle.steps.specs.Cuts.{CutRoom, CutLeaves};
 ghost use Rattle.machine.specs.Cells.{registerIn};
 use crate::table::register;
-use sharing::rows::Row;
+use secret::Row;
 use sharing::setting::Setting;
 use steps::cut;
 use steps::cut::Cut;

@@ -11,7 +11,7 @@ ghost use Rattle.steps.specs.Promises.{StepLeaves};
 ghost use Rattle.machine.specs.Cells.{registerIn, Stored, Revealed};
 use crate::table::Table;
 use crate::table::register;
-use sharing::rows::Row;
+use secret::Row;
 use sharing::setting::Setting;
 use steps::comparison;
 use steps::opening;

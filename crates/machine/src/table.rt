@@ -11,8 +11,8 @@ ghost use Rattle.machine.specs.Places.{placesOf, Reached};
 use costs::cost::Cost;
 use costs::spent;
 use costs::spent::Spent;
+use secret::Row;
 use sharing::rows;
-use sharing::rows::Row;
 use sheet::frame::Frame;
 use steps::places::Places;
 

@@ -1,8 +1,5 @@
-pub mod Sums
-pub mod Presences
 pub mod Opened
 pub mod Horner
-pub mod Testing
 pub mod Recovery
 pub mod Numbers
 pub mod Outcomes

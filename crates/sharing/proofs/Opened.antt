@@ -22,9 +22,10 @@ use Rattle.model.proofs.Polynomials.{positive}
 use Rattle.model.proofs.Presence.{openers-in, openers-distinct, presence}
 use Rattle.model.proofs.Sharings.{nodes-distinct}
 use Rattle.model.proofs.Weights.{weight-lt, weighted-value}
-use Rattle.sharing.specs.Settings.{settingOf, partiesOf, weightsOf, WorkedBy, Fitting}
+use Rattle.presence.specs.Openings.{partiesOf, weightsOf, WorkedBy}
+use Rattle.presence.proofs.Presences.{bit-left}
+use Rattle.sharing.specs.Settings.{settingOf, Fitting}
 use Rattle.sharing.specs.declared.setting.Setting.{Setting}
-use Rattle.sharing.proofs.Presences.{bit-left}
 
 -- four products, of which those past the first t + 1 are 0
 module _ (a b c d u v w z : ℕ) (f g : ℕ → ℕ) where

@@ -1,9 +1,7 @@
-// Shamir's sharing: rows of shares, their secrets, and the entries share, recover and sum.
+// Shamir's sharing: rows of shares, what is opened of them, and the entries share, recover and sum.
 pub mod opening;
 pub mod polynomial;
-pub mod presence;
 pub mod rows;
-pub mod secret;
 pub mod setting;
 
 ghost use mathlib.Core.Path.{_≡_};

@@ -8,12 +8,10 @@ ghost use Rattle.model.specs.Sharing as Sharing;
 ghost use Rattle.model.specs.Presence as Presence;
 ghost use Rattle.model.specs.Steps as Steps;
 ghost use Rattle.sharing.specs.Settings.{settingOf, Fitting};
-use crate::presence;
-use crate::presence::Point;
 use crate::rows;
-use crate::rows::Row;
-use crate::secret;
 use crate::setting::Setting;
+use presence::Point;
+use secret::Row;
 
 // A party's weight times its share.
 fn term(point: Point, row: Row) -> u64

@@ -7,10 +7,9 @@ ghost use Rattle.algebra.specs.Ring as Ring;
 ghost use Rattle.algebra.specs.Rows as Rows;
 ghost use Rattle.model.specs.Fields as Fields;
 ghost use Rattle.model.specs.Sharing as Sharing;
-use crate::rows::Row;
-use crate::secret;
 use field::arithmetic;
 use field::table;
+use secret::Row;
 
 // The value at x of the polynomial with the secret as its constant term, by Horner's rule.
 fn value_at(p: u32, constant: u32, coefficients: &[u32], x: u32) -> u32

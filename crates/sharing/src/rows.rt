@@ -1,4 +1,4 @@
-// Rows by value: seven cells, of which the first n are the shares of parties 1 to n and the others 0.
+// Rows by value: read, written, and worked column by column.
 ghost use mathlib.Core.Path.{_≡_};
 ghost use Prim.Native.Nat.{_+_, _*_, _≤_};
 ghost use lib.ListN.{length, take, drop};
@@ -9,10 +9,7 @@ ghost use Rattle.model.specs.Steps as Steps;
 ghost use Rattle.sharing.specs.Settings.{settingOf, Fitting};
 use crate::setting::Setting;
 use field::arithmetic;
-
-pub struct Row {
-    pub shares: [u32; 7],
-}
+use secret::Row;
 
 // Whether every number of the list is below p.
 pub fn all_below(p: u32, xs: &[u32]) -> bool

@@ -1,5 +1,5 @@
 // What rows and steps are worked with, by value: the field's modulus, the bits of a mask, the parties, the threshold, and how openings are worked.
-use crate::presence::Opening;
+use presence::Opening;
 
 pub struct Setting {
     pub p: u32,

@@ -16,7 +16,8 @@ use Rattle.model.proofs.Presence.{presence}
 use Rattle.model.proofs.Lengths.{header-numbered, header-read}
 use Rattle.model.proofs.Trying.{numbered, holding, all-hold, front-passes, passes, fails, nothing-left, first-decide, others-decide, told}
 use Rattle.model.specs.Deal.{Setting, Row, Deal}
-use Rattle.sharing.specs.Settings.{WorkedBy, Fitting}
+use Rattle.presence.specs.Openings.{WorkedBy}
+use Rattle.sharing.specs.Settings.{Fitting}
 use Rattle.sheet.specs.Framed.{settingFrom, settingIn, inputsOf, dealOf, Headed, Presented, RunHeaded, Whole, RunFramed}
 use Rattle.sheet.specs.Reading.{runTests, Reads}
 use Rattle.sheet.proofs.Headers.{end-is, rows-are, setting-is, inputs-are, deal-is, modulus-in, bits-in}

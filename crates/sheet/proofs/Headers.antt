@@ -17,9 +17,9 @@ use Rattle.model.specs.Fields.{Modulus, modulus, bits, largestK}
 use Rattle.model.specs.Sheet.{Header, headerOf, headerSize, maskBits, largestIn, settingWith, limits, impliedLength, inputIn, dealIn, dealRows, rowsAt, Permitted}
 use Rattle.model.proofs.SheetDeal.{all-rows}
 use Rattle.model.proofs.Lengths.{header-field, mask-bits-most, fitting, length-most}
-use Rattle.sharing.specs.Settings.{WorkedBy}
+use Rattle.presence.specs.Openings.{WorkedBy}
+use Rattle.presence.specs.declared.Opening.{Opening}
 use Rattle.sheet.specs.Framed.{settingIn, inputsOf, dealOf, Headed, Presented}
-use Rattle.sharing.specs.declared.presence.Opening.{Opening}
 use Rattle.sheet.specs.declared.frame.Frame.{Frame}
 
 pub header-is : (s : List ℕ) {field n t inputs masks triples script : ℕ} → field ≡ getD s 0 0 → n ≡ getD s 1 0 → t ≡ getD s 2 0 → inputs ≡ number 2 s 3

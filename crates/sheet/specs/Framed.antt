@@ -8,7 +8,7 @@ use Rattle.model.specs.Fields.{InUse, Parties}
 use Rattle.model.specs.Presence.{PermittedSet}
 use Rattle.model.specs.Deal.{Setting, Row, Deal}
 use Rattle.model.specs.Sheet.{Header, headerOf, headerSize, maskBits, largestIn, settingOf, rowsAt, masksFrom, triplesFrom}
-use Rattle.sharing.specs.Settings.{WorkedBy}
+use Rattle.presence.specs.Openings.{WorkedBy}
 use Rattle.sharing.specs.declared.setting.Setting as Declared
 use Rattle.sheet.specs.declared.frame.Frame.{Frame}
 

@@ -7,7 +7,6 @@ ghost use Rattle.model.specs.Sheet as Sheet;
 ghost use Rattle.sharing.specs.Settings.{settingOf, Fitting};
 use field::arithmetic;
 use sharing::rows;
-use sharing::secret;
 use sharing::setting::Setting;
 
 // Whether the mask whose rows stand from place i on is well formed: v is what its first k bits spell.

@@ -2,7 +2,7 @@
 ghost use mathlib.Core.Path.{_≡_};
 ghost use Prim.Native.Nat.{_+_, _*_, _≤_};
 ghost use Rattle.sheet.specs.Framed.{settingFrom};
-use sharing::presence::Opening;
+use presence::Opening;
 use sharing::setting::Setting;
 
 // What an accepted header says, by value: the field's numbers, the parties, how many input rows, masks and triples there are, the script's

@@ -11,7 +11,6 @@ ghost use Rattle.sheet.specs.Framed.{Headed, Presented, RunHeaded};
 ghost use Rattle.sheet.specs.Reading.{told, Reads, runTests};
 use crate::frame::Frame;
 use field::table;
-use sharing::presence;
 
 // "That header is 11 bytes."
 const HEADER_SIZE: usize = 11;

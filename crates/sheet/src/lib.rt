@@ -10,7 +10,7 @@ ghost use lib.Dec.{eqb};
 ghost use lib.ListN.{length};
 ghost use Rattle.model.specs.Refusing.{firstFailed};
 ghost use Rattle.model.specs.Sheet as Sheet;
-ghost use Rattle.sharing.specs.Settings.{WorkedBy};
+ghost use Rattle.presence.specs.Openings.{WorkedBy};
 ghost use Rattle.sheet.specs.Framed.{settingIn, inputsOf, dealOf, Headed, Whole, RunFramed};
 ghost use Rattle.sheet.specs.Reading.{Reads};
 use crate::frame::Frame;

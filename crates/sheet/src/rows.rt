@@ -7,7 +7,6 @@ ghost use Rattle.model.specs.Fields as Fields;
 ghost use Rattle.model.specs.Sharing as Sharing;
 ghost use Rattle.model.specs.Sheet as Sheet;
 use sharing::rows;
-use sharing::secret;
 
 // Whether each share of so many rows, from place i on, is below p.
 pub fn all_below(p: u32, n: usize, s: &[u8], i: usize, count: usize) -> bool

@@ -5,7 +5,7 @@ use crate::numbers::word;
 use report::lines;
 use report::number::number;
 use report::number::put;
-use sharing::rows::Row;
+use secret::Row;
 
 // The paper's name of a command.
 fn name(step: u32) {

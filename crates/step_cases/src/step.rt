@@ -12,7 +12,6 @@ use crate::numbers::up_to;
 use crate::numbers::word;
 use crate::print::answer;
 use field::table;
-use sharing::presence;
 use sharing::rows;
 use sharing::setting::Setting;
 use steps::bits;

@@ -6,8 +6,8 @@ ghost use Rattle.model.specs.Bytes as Bytes;
 ghost use Rattle.model.specs.Sheet as Sheet;
 ghost use Rattle.model.specs.Steps as Steps;
 ghost use Rattle.sharing.specs.Settings.{settingOf, Fitting};
+use secret::Row;
 use sharing::rows;
-use sharing::rows::Row;
 use sharing::setting::Setting;
 
 // So many rows, from place i of the sheet's bytes on, become the first rows of the cells. Past them the cells are unchanged.

@@ -9,8 +9,8 @@ ghost use Rattle.steps.specs.Places.{Bits, Room};
 ghost use Rattle.steps.specs.Promises.{StepLeaves};
 use crate::places::Places;
 use crate::product;
+use secret::Row;
 use sharing::rows;
-use sharing::rows::Row;
 use sharing::setting::Setting;
 
 // "lt is bit 0 if v's bit 0 is 0, else the zero sharing."

@@ -7,8 +7,8 @@ ghost use Rattle.steps.specs.Cuts.{CutRoom, CutLeaves, widthOf, lowOf, b
 use crate::places::Places;
 use crate::remainder;
 use field::arithmetic;
+use secret::Row;
 use sharing::rows;
-use sharing::rows::Row;
 use sharing::setting::Setting;
 
 // The commands that rest on MOD, with their numbers.

@@ -4,8 +4,8 @@ ghost use lib.ListN.{length};
 ghost use Rattle.algebra.specs.Lists.{Below};
 ghost use Rattle.sharing.specs.Settings.{Fitting};
 ghost use Rattle.steps.specs.Promises.{Opens};
+use secret::Row;
 use sharing::opening;
-use sharing::rows::Row;
 use sharing::setting::Setting;
 
 // "Opening: the n shares go to the record, party 1 first, and the value at 0 becomes public." By request 5 the value is worked from the lowest t + 1

@@ -9,8 +9,8 @@ ghost use Rattle.steps.specs.Promises.{Opens, StepLeaves};
 use crate::opening;
 use crate::places::Places;
 use field::arithmetic;
+use secret::Row;
 use sharing::rows;
-use sharing::rows::Row;
 use sharing::setting::Setting;
 
 // Opens x − a at a place of the record.

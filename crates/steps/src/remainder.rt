@@ -16,8 +16,8 @@ use crate::opening;
 use crate::places::Places;
 use crate::product;
 use field::arithmetic;
+use secret::Row;
 use sharing::rows;
-use sharing::rows::Row;
 use sharing::setting::Setting;
 
 // What is public once C is opened: m, 2^m, C mod 2^m, (C + p) mod 2^m, and the last less the one before it, modulo p.

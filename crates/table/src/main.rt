@@ -15,7 +15,6 @@ use report::lines;
 use report::number::count;
 use report::number::line_end;
 use report::number::number;
-use sharing::presence;
 use sheet::frame::Frame;
 use sheet::header;
 use sheet::header::Read;

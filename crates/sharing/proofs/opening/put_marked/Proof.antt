@@ -5,9 +5,9 @@ use Rattle.algebra.specs.Lists.{ontoAt}
 use Rattle.algebra.proofs.Lists.{WritingAt, writing-at-start, writing-at-more, writing-at-end, writing-at-length}
 use Rattle.model.specs.Steps.{recorded}
 use Rattle.model.proofs.Written.{length-recorded}
+use Rattle.presence.proofs.Presences.{shifted}
 use Rattle.sharing.specs.Settings.{settingOf}
 use Rattle.sharing.proofs.Opened.{number-at}
-use Rattle.sharing.proofs.Presences.{shifted}
 use borrow.Author.Needs.{needs}
 use lib.Seq.{take-all}
 use mathlib.Core.List.{List}

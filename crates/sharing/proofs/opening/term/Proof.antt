@@ -1,7 +1,7 @@
 -- `opening::term` meets its contract: a product of 32-bit numbers fits.
 -- Assumes nothing.
+use Rattle.secret.proofs.Testing.{at-place}
 use Rattle.sharing.proofs.Opened.{product-fits}
-use Rattle.sharing.proofs.Testing.{at-place}
 use borrow.Author.Needs.{needs}
 use native.Mathlib.Omega.{arith}
 use Rattle.sharing.proofs.opening.term.Statement.{statement}

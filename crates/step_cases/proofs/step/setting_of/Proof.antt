@@ -8,8 +8,9 @@ use Rattle.model.specs.Fields.{InUse, Parties, modulus, bits}
 use Rattle.model.specs.Presence.{everyone, PermittedSet}
 use Rattle.model.proofs.Fields.{below-four, fields}
 use Rattle.model.proofs.Presence.{all-permitted}
-use Rattle.sharing.specs.Settings.{WorkedBy, Fitting}
-use Rattle.sharing.specs.declared.presence.Opening.{Opening}
+use Rattle.presence.specs.Openings.{WorkedBy}
+use Rattle.presence.specs.declared.Opening.{Opening}
+use Rattle.sharing.specs.Settings.{Fitting}
 use Rattle.step_cases.proofs.step.setting_of.Statement.{statement}
 use Rattle.step_cases.proofs.step.setting_of.Tie as tie
 

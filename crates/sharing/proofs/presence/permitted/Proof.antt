@@ -1,9 +1,0 @@
--- `presence::permitted` meets its contract: by what is left of the byte, and by how many parties were found.
--- Assumes nothing.
-use Rattle.sharing.proofs.Presences.{everyone-may, permits, bits-beyond}
-use borrow.Author.Needs.{needs}
-use Rattle.sharing.proofs.presence.permitted.Statement.{statement}
-use Rattle.sharing.proofs.presence.permitted.Tie as tie
-
-pub permitted-spec : {M : Type 1} → statement M
-permitted-spec = tie.close (tie.spec (λ c κs. search needs) (λ c. search (needs, everyone-may)) (λ c. search needs) (λ c κs. search needs) (λ c. search needs) (λ c. search (needs, permits)) (λ c. search (needs, bits-beyond)))
