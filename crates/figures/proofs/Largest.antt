@@ -13,16 +13,18 @@ use lib.ListN.{length, take, length-take}
 use lib.Seq.{getD-take}
 use Rattle.model.specs.Presence.{permittedSet}
 use Rattle.model.specs.Bytes.{number}
-use Rattle.model.specs.Fields.{bits, inUse, parties, fieldTests, settingTests}
+use Rattle.model.specs.Fields.{bits, inUse, fieldTests, settingTests}
 use Rattle.model.specs.Refusing.{firstFailed}
 use Rattle.model.specs.Sheet.{Header, headerOf, inputIn, dealIn, headerSize, maskBits, limits, impliedLength, headerTests, presentTests, limitTests, lengthTests, rowTests, sheetTests, sheetNumber, Permitted, settingWith}
 use Rattle.model.specs.Run.{Outcome, refusedInput, outcome, stopOf, run}
 use Rattle.model.specs.Columns.{shapeTests, turnNumber}
+use Rattle.model.specs.Forecast.{forecast}
 use Rattle.model.specs.Exactness.{Accepted}
-use Rattle.model.proofs.Trying.{upTo, number-most, given-refused, passes, fails, numbered, holding, all-hold, after, setting-numbered, setting-field, setting-people}
-use Rattle.model.proofs.Lengths.{length-most}
+use Rattle.model.proofs.Trying.{given-refused, passes, fails, numbered, holding, all-hold, first-decide, others-decide, after, setting-numbered, setting-field, setting-people}
+use Rattle.model.proofs.Lengths.{header-read, fitting, length-most}
 use Rattle.model.proofs.Acceptance.{sound}
 use Rattle.model.proofs.ColumnForms.{every-form}
+use Rattle.model.proofs.Forecasts.{forecasts}
 use Rattle.figures.specs.Largest.{largestSheet, largestHeader, longNumber, longTurned, LargestSheet}
 
 most : (h : Header) → Permitted h → impliedLength h ≤ largestSheet
@@ -139,5 +141,47 @@ turned s out l =
     let q = long-shape s l in
     every-form .numbers s out .first (λ z. long-turned (headerOf s) (sym q ∙ z)) ∙ q
 
+-- so does a forecast
+module _ (s : List ℕ) (l : largestSheet < length s) where
+  long-header : firstFailed (headerTests s) ≡ firstFailed (settingTests (headerOf s .field) (headerOf s .n) (headerOf s .t))
+  unfolding headerSize headerTests
+  long-header = sym (passes 1 _ (le-leb 11 (length s) (omega arith)) refl)
+
+  -- by the limits, or since header and script are at most 1,035 bytes
+  long-four : firstFailed (headerTests s) ≡ 0 → forecast s ≡ record { number = 4; place = 0 }
+  unfolding limitTests headerSize
+  long-four e = go (limits (headerOf s)) refl
+    where
+      go : (b : Bool) → limits (headerOf s) ≡ b → forecast s ≡ record { number = 4; place = 0 }
+      go false q =
+          let z : 4 ≡ firstFailed ((limits (headerOf s), 4) ∷ []) = fails 4 [] q in
+          forecasts .limits-next s e (λ e. omega arith)
+      go true q =
+          let R = header-read s refl e in
+          let P : Permitted (headerOf s) = record { field = R .field; people = R .people; counts = rw q tt } in
+          forecasts .other-length s e (λ z. omega (arith, fitting (headerOf s) P .script-most))
+
+  forecast-long : forecast s ≡ record { number = longTurned (headerOf s); place = 0 }
+  unfolding fieldTests settingTests
+  forecast-long = go (firstFailed (headerTests s)) refl
+    where
+      go : (n : ℕ) → firstFailed (headerTests s) ≡ n → forecast s ≡ record { number = longTurned (headerOf s); place = 0 }
+      go zero e =
+          long-four e
+          ∙ ap (λ (n : ℕ). record { number = n; place = 0 })
+          (others-decide (settingTests (headerOf s .field) (headerOf s .n) (headerOf s .t)) ((false, 4) ∷ []) (setting-numbered (headerOf s .field) (headerOf s .n) (headerOf s .t)) long-header e (fails 4 [] refl))
+      go (suc n) e =
+          let z : firstFailed (headerTests s) ≢ 0 = λ q. omega arith in
+          forecasts .header-first s z
+          ∙ ap (λ (n : ℕ). record { number = n; place = 0 })
+          (first-decide (settingTests (headerOf s .field) (headerOf s .n) (headerOf s .t)) ((false, 4) ∷ []) long-header z)
+
+forecast-cut : (s : List ℕ) → largestSheet < length s → forecast (take (suc largestSheet) s) ≡ forecast s
+forecast-cut s l =
+    let m : largestSheet < length (take (suc largestSheet) s) = omega (arith, length-take (suc largestSheet) s, min-eq-left l) in
+    forecast-long (take (suc largestSheet) s) m
+    ∙ ap (λ (h : Header). record { number = longTurned h; place = 0 }) (header-cut (suc largestSheet) s (unfold headerSize in omega arith))
+    ∙ sym (forecast-long s l)
+
 pub largest-sheet : LargestSheet
-largest-sheet = record { most = most; permitted = permitted; reached = reached; accepted = accepted; longer = longer; cut = cut; turned = turned }
+largest-sheet = record { most = most; permitted = permitted; reached = reached; accepted = accepted; longer = longer; cut = cut; turned = turned; forecasts = forecast-long; forecast-cut = forecast-cut }

@@ -11,6 +11,7 @@ use Rattle.model.specs.Refusing.{firstFailed}
 use Rattle.model.specs.Sheet.{Header, headerOf, impliedLength, Permitted}
 use Rattle.model.specs.Run.{run}
 use Rattle.model.specs.Columns.{turnNumber}
+use Rattle.model.specs.Forecast.{forecast}
 use Rattle.model.specs.Exactness.{Accepted}
 
 -- "The largest sheet is 59,723 bytes."
@@ -46,3 +47,6 @@ pub record LargestSheet : Type 0 where
       → run present (take (suc largestSheet) sheet) log revealed ≡ run present sheet log revealed
   -- "1 to 4 as in the paper": the same but for 12 where a longer input is to be turned over or back, whatever the output
   pub turned : (input out : List ℕ) → largestSheet < length input → turnNumber input out ≡ longTurned (headerOf input)
+  -- and where it is to be forecast: it is no header with a script, so that of a longer input, too, the first 59,724 bytes are enough
+  pub forecasts : (input : List ℕ) → largestSheet < length input → forecast input ≡ record { number = longTurned (headerOf input); place = 0 }
+  pub forecast-cut : (input : List ℕ) → largestSheet < length input → forecast (take (suc largestSheet) input) ≡ forecast input

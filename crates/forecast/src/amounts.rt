@@ -1,10 +1,10 @@
-// Amounts of input rows, masks and triples in words. No contract can speak of what is written.
+// Amounts in words. No contract can speak of what is written.
 use costs::counts::Counts;
 use report::number::count;
 use report::number::put;
 
 // `1 mask`, `26 triples`: the name is that of one.
-fn plain(n: usize, name: &[u8]) {
+pub fn plain(n: usize, name: &[u8]) {
     count(b"", n);
     put(b" ");
     put(name);

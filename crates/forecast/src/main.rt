@@ -1,20 +1,22 @@
 // Says of the header and script on standard input, or of those of the sheet there, whether a run would come to END, and in words what is missing.
 mod amounts;
+mod cutting;
 mod head;
 mod meaning;
 mod names;
 mod needs;
 
-ghost use Prim.Native.Nat.{_≤_};
+ghost use mathlib.Core.Path.{_≡_};
+ghost use Prim.Native.Nat.{_≤_, _<_};
 ghost use lib.ListN.{length};
-ghost use Rattle.model.specs.Sheet.{headerOf};
-ghost use Rattle.sheet.specs.Framed.{Headed};
-ghost use Rattle.forecast.specs.Taken.{taken, takenBy, Cut};
+ghost use Rattle.figures.specs.Largest.{largestSheet};
+ghost use Rattle.model.specs.Forecast as Paper;
+ghost use Rattle.forecasting.specs.Forecasting.{foreseenOf};
+ghost use Rattle.forecast.specs.Taken.{taken};
 use forecasting::lines::Foreseen;
 use report::number::count;
 use report::number::line_end;
 use report::number::number;
-use sheet::frame::Frame;
 use sheet::header;
 use sheet::header::Read;
 
@@ -24,40 +26,31 @@ const BYTES_READ: usize = 59724;
 fn main() {
     let mut input = [0u8; BYTES_READ];
     let got = io::read_full(0, &mut input);
-    read(&input[..], got);
+    tell_read(&input[..], got);
 }
 
-// The bytes that were read.
-fn read(input: &[u8], got: usize)
-    requires { ⌜ got ≤ length (now input) ⌝ }
+// The bytes that were read. An input that is longer than what is read is longer than the largest sheet too, so that its first bytes have the whole
+// input's answer: `forecast-cut` in crates/figures/specs/Largest.antt.
+fn tell_read(input: &[u8], got: usize)
+    requires { ⌜ (largestSheet < length (now input)) × (got ≤ length (now input)) ⌝ }
 {
-    take_head(&input[..got]);
+    tell(&input[..got]);
 }
 
-fn take_head(input: &[u8]) {
-    let size = head_length(input);
-    tell(&input[..size]);
+// The forecast's number and place, and what they mean.
+fn tell(input: &[u8]) {
+    let found = foresee_taken(input);
+    end_line(found);
+    let size = cutting::head_length(input);
+    explain(&input[..size], found);
 }
 
-// How many bytes are taken: of a whole sheet its header and script, else all.
-fn head_length(input: &[u8]) -> usize
-    ensures { λ r. ⌜ Cut (now (input .entry)) (taken (now (input .entry))) r ⌝ }
+// The forecast of what is taken of the input: header and script of a whole sheet, else all.
+fn foresee_taken(input: &[u8]) -> Foreseen
+    ensures { λ r. ⌜ foreseenOf r ≡ Paper.foreseen (taken (now (input .entry))) ⌝ }
 {
-    match header::read_header(input) {
-        Read::Sheet(f) => cut(input, f),
-        Read::Refused(_) => input.len(),
-    }
-}
-
-fn cut(input: &[u8], f: Frame) -> usize
-    requires { ⌜ Headed (headerOf (now input)) f ⌝ }
-    ensures { λ r. ⌜ Cut (now (input .entry)) (takenBy (now (input .entry))) r ⌝ }
-{
-    if sheet::has_implied_length(input, f) {
-        f.input
-    } else {
-        input.len()
-    }
+    let size = cutting::head_length(input);
+    forecasting::foresee(&input[..size])
 }
 
 fn end_line(found: Foreseen) {
@@ -66,10 +59,7 @@ fn end_line(found: Foreseen) {
     line_end();
 }
 
-// The forecast's number and place, and what they mean.
-fn tell(head: &[u8]) {
-    let found = forecasting::foresee(head);
-    end_line(found);
+fn explain(head: &[u8], found: Foreseen) {
     match header::read_header(head) {
         Read::Sheet(f) => head::accepted(head, f, found),
         Read::Refused(refusal) => head::refused(head, refusal),

@@ -9,6 +9,8 @@ use report::number::count;
 use report::number::line_end;
 use report::number::number;
 use report::number::put;
+use script::command::Decoded;
+use script::decode;
 use sheet::frame::Frame;
 
 pub fn explain(f: Frame, script: &[u8], found: Foreseen)
@@ -18,7 +20,7 @@ pub fn explain(f: Frame, script: &[u8], found: Foreseen)
     match refusal {
         0 => comes_to_end(f, found.spent.counts),
         9 => no_command(script, found.place),
-        10 => no_end(script, found.place),
+        10 => no_end(f, script, found.place),
         11 => out_of_range(script, found.place),
         _ => needs::missing(f, script, found),
     }
@@ -40,13 +42,31 @@ fn no_command(script: &[u8], at: usize) {
     line_end();
 }
 
-fn no_end(script: &[u8], at: usize) {
-    if at == script.len() {
-        count(b"The script has ", at);
-        put(b" bytes and no END.");
+// Where reading the script stops: at END, or at what is refused.
+fn stops_at(f: Frame, script: &[u8]) -> usize {
+    let mut at = 0;
+    loop {
+        let Decoded::Command(_, next) = decode::decode(f.p, f.largest, script, at) else {
+            return at;
+        };
+        at = next;
+    }
+}
+
+// No END, operands cut off, or bytes after END, whose place is not where reading stops.
+fn no_end(f: Frame, script: &[u8], place: usize) {
+    if place == script.len() {
+        put(b"The script has ");
+        amounts::plain(place, b"byte");
+        put(b" and no END.");
     } else {
-        count(b"At ", at);
-        put(b" the script ends within a command, or goes on after END.");
+        if stops_at(f, script) == place {
+            names::command(script, place);
+            put(b" is cut off by the script's end.");
+        } else {
+            count(b"Bytes follow END, from ", place);
+            put(b" on.");
+        }
     }
     line_end();
 }

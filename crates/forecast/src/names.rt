@@ -1,9 +1,11 @@
 // The paper's names of the commands.
 use report::number::count;
+use report::number::number;
 use report::number::put;
 
 fn put_name(op: u8) {
     match op {
+        0 => put(b"END"),
         1 => put(b"LOAD"),
         2 => put(b"CONST"),
         3 => put(b"ADD"),
@@ -17,7 +19,7 @@ fn put_name(op: u8) {
         11 => put(b"BLOCKS"),
         12 => put(b"REVEAL"),
         13 => put(b"BITLT"),
-        _ => put(b"END"),
+        _ => number(b"byte ", words::wide(op)),
     }
 }
 

@@ -1,11 +1,13 @@
 // 21 to 24: what the command at which a forecast stops reads or needs, and what is left.
 ghost use mathlib.Core.Path.{_≡_};
 ghost use Prim.Native.Nat.{_+_, _-_, _≤_};
+ghost use Rattle.algebra.specs.Lists.{from};
+ghost use Rattle.costs.specs.Costing.{costOf};
+ghost use Rattle.forecast.specs.Unset.{firstUnset, InTable};
 use crate::amounts;
 use crate::names;
 use costs::cost;
 use costs::cost::Cost;
-use costs::cost::Span;
 use costs::counts::Counts;
 use costs::spent::Spent;
 use forecasting::lines;
@@ -17,15 +19,20 @@ use script::command::Decoded;
 use script::decode;
 use sheet::frame::Frame;
 
-// What there is by the header. Openings and revealed values need no supply here.
-pub fn there(f: Frame) -> Counts {
+// Counts of which only input rows, masks and triples are spoken of.
+fn counts(inputs: usize, masks: usize, triples: usize) -> Counts {
     Counts {
-        inputs: f.inputs,
-        masks: f.masks,
-        triples: f.triples,
+        inputs,
+        masks,
+        triples,
         openings: 0,
         revealed: 0,
     }
+}
+
+// What there is by the header.
+pub fn there(f: Frame) -> Counts {
+    counts(f.inputs, f.masks, f.triples)
 }
 
 pub fn missing(f: Frame, script: &[u8], found: Foreseen)
@@ -46,81 +53,96 @@ pub fn missing(f: Frame, script: &[u8], found: Foreseen)
     }
 }
 
-// The first register of a span that is not set, or 64.
-fn first_unset(marks: [bool; 64], span: Span) -> usize
-    requires { ⌜ span .from + span .size ≤ 64 ⌝ }
+// The first of registers b to b + w − 1 that is not set, or 64.
+fn first_unset(marks: [bool; 64], b: usize, w: usize) -> usize
+    requires { ⌜ b + w ≤ 64 ⌝ }
+    ensures { λ r. ⌜ r ≡ firstUnset marks (from b w) ⌝ }
 {
-    let end = span.from + span.size;
-    let mut r = span.from;
-    while r < end {
-        if marks[r] {
-            r += 1;
+    let mut i = 0;
+    while i < w {
+        if marks[b + i] {
+            i += 1;
         } else {
-            return r;
+            return b + i;
         }
     }
     64
 }
 
-// Which register is read and not set: the first, in the order in which the command reads.
+// The first register that the command reads and that is not set, or 64.
+fn unset_register(marks: [bool; 64], need: Cost) -> usize
+    requires { ⌜ InTable need ⌝ }
+    ensures { λ r. ⌜ r ≡ firstUnset marks (costOf need .reads) ⌝ }
+{
+    let first = first_unset(marks, need.first.from, need.first.size);
+    if first < 64 {
+        return first;
+    }
+    first_unset(marks, need.second.from, need.second.size)
+}
+
 fn unset(spent: Spent, need: Cost)
-    requires { ⌜ (need .first .from + need .first .size ≤ 64) × (need .second .from + need .second .size ≤ 64) ⌝ }
+    requires { ⌜ InTable need ⌝ }
 {
     let marks = spent.marks;
-    let first = first_unset(marks, need.first);
-    let second = first_unset(marks, need.second);
-    if first < 64 {
-        count(b" reads register ", first);
-    } else {
-        count(b" reads register ", second);
-    }
+    count(b" reads register ", unset_register(marks, need));
     put(b", which no command before it sets.");
     line_end();
 }
 
 // What is left of an amount.
-fn less(all: usize, spent: usize) -> usize
+fn left(all: usize, spent: usize) -> usize
     ensures { λ r. ⌜ r ≡ all - spent ⌝ }
 {
     if spent <= all { all - spent } else { 0 }
 }
 
 fn too_few(all: Counts, spent: Counts, need: Counts) {
-    let left = Counts {
-        inputs: less(all.inputs, spent.inputs),
-        masks: less(all.masks, spent.masks),
-        triples: less(all.triples, spent.triples),
-        openings: 0,
-        revealed: 0,
-    };
+    let rest = counts(
+        left(all.inputs, spent.inputs),
+        left(all.masks, spent.masks),
+        left(all.triples, spent.triples),
+    );
     put(b" needs ");
     amounts::plain_needed(need);
     put(b": ");
-    amounts::part_of_needed(need, left, all);
+    amounts::part_of_needed(need, rest, all);
     put(b" are left.");
     line_end();
 }
 
-// More than a script of 1,024 bytes can spend: it has at most 511 commands, none of which takes more than 1 input row, 1 mask, 89 triples and 179 openings.
-fn plenty() -> Counts {
-    Counts {
-        inputs: 1000,
-        masks: 1000,
-        triples: 100000,
-        openings: 100000,
-        revealed: 1000,
-    }
-}
+const MOST: usize = 18446744073709551615;
 
-// What the whole script needs, if with so much it comes to END.
+// What the whole script needs, where with a supply that no script spends it comes to END.
 fn whole_script(f: Frame, script: &[u8])
     requires { ⌜ (f .l ≤ 31) × (f .largest ≤ 30) ⌝ }
 {
-    let found = lines::foresee_script(f, script, plenty());
+    let plenty = Counts {
+        inputs: MOST,
+        masks: MOST,
+        triples: MOST,
+        openings: MOST,
+        revealed: MOST,
+    };
+    let found = lines::foresee_script(f, script, plenty);
     if found.number == 0 {
         put(b"The whole script needs ");
         amounts::plain_all(found.spent.counts);
+        if over_limits(found.spent.counts) {
+            put(b", more than a header may count");
+        }
         put(b".");
         line_end();
     }
+}
+
+// "input rows (at most 64), masks (at most 16), triples (at most 512)"
+fn over_limits(x: Counts) -> bool {
+    if 64 < x.inputs {
+        return true;
+    }
+    if 16 < x.masks {
+        return true;
+    }
+    512 < x.triples
 }

@@ -7,7 +7,7 @@ use report::number::line_end;
 use report::number::number;
 
 fn main() {
-    let mut input = [0u8; 100000];
+    let mut input = [0u8; 200000];
     let got = io::read_full(0, &mut input);
     run_cases(&input[..got]);
 }
@@ -34,11 +34,11 @@ fn run_case(s: &[u8]) -> usize
     if s.len() - 4 < size {
         return 0;
     }
-    foretell(&s[4..4 + size]);
+    forecast_head(&s[4..4 + size]);
     4 + size
 }
 
-fn foretell(head: &[u8]) {
+fn forecast_head(head: &[u8]) {
     let answer = forecasting::forecast(head);
     number(b"end ", answer.number);
     count(b" at ", answer.place);

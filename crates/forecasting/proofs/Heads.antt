@@ -1,22 +1,17 @@
 -- A header and script: the tests of their header and length, and the script that they have.
 -- Assumes nothing.
-use mathlib.Core.Path.{_≡_, refl, sym, ap, subst, _∙_}
+use mathlib.Core.Path.{_≡_, refl, sym, ap, _∙_}
 use mathlib.Core.Logic.{_≢_}
-use mathlib.Core.Bool.{Bool}
-use mathlib.Core.List.{List, [], _∷_, _++_, append-assoc}
-use Prim.Native.Nat.{ℕ, _+_, _-_, _≤_, _<_}
+use mathlib.Core.List.{List, _++_, append-assoc}
+use Prim.Native.Nat.{ℕ, _+_, _-_, _≤_}
 use native.Mathlib.Omega.{arith}
 use borrow.Author.Tests.{eq-eqb, ne-eqb}
-use lib.Dec.{eqb}
 use lib.ListN.{length}
-use Rattle.model.specs.Refusing.{firstFailed, given}
-use Rattle.model.specs.Checks.{Supply}
+use Rattle.model.specs.Refusing.{firstFailed}
 use Rattle.model.specs.Script.{Script, accepted, refused, scriptOf}
-use Rattle.model.specs.Sheet.{Header, headerOf, headerSize, maskBits, largestIn, settingOf, inputsAt, scriptIn, headerTests, limitTests}
-use Rattle.model.specs.Run.{sheetScript, supplyOf}
-use Rattle.model.specs.Buffers.{recordLength, revealedLength}
+use Rattle.model.specs.Sheet.{Header, headerOf, inputsAt, headerTests, limitTests}
 use Rattle.model.specs.Forecast as Paper
-use Rattle.model.specs.Forecast.{headLengthTests, headTests, scriptForeseen, nothingForeseen, amply, foreseen, forecast}
+use Rattle.model.specs.Forecast.{headLengthTests, headTests, scriptForeseen, nothingForeseen, foreseen, forecast}
 use Rattle.model.proofs.Trying.{given-refused, first-decide, others-decide}
 use Rattle.model.proofs.Lengths.{header-field}
 use Rattle.sheet.specs.declared.frame.Frame.{Frame}
@@ -29,9 +24,8 @@ use Rattle.sheet.proofs.Scripts.{scriptPart, script-read}
 use Rattle.script.specs.Meaning.{scriptNumber, scriptPlace}
 use Rattle.costs.specs.declared.counts.Counts.{Counts}
 use Rattle.costs.specs.Costing.{Supplied, supplyIn}
-use Rattle.forecasting.specs.declared.Answer.{Answer}
 use Rattle.forecasting.specs.declared.lines.Foreseen.{Foreseen}
-use Rattle.forecasting.specs.Foretelling.{answerOf, foreseenOf, Foresees, byLength}
+use Rattle.forecasting.specs.Forecasting.{answerOf, foreseenOf, Foresees, byLength}
 
 -- a script that 9 to 11 refuse
 pub script-refused : (f : Frame) (script : List ℕ) (supply : Counts) {number place : ℕ} {r : Foreseen}

@@ -1,10 +1,10 @@
 -- The loop over a script's lines without rows: at each place the lines that are left stand from there on, and with every supply the forecast goes on from
 -- there.
 -- Assumes nothing.
-use mathlib.Core.Path.{_≡_, refl, sym, ap, subst, _∙_}
+use mathlib.Core.Path.{_≡_, refl, sym, ap, _∙_}
 use mathlib.Core.Logic.{_≢_}
-use mathlib.Core.List.{List, [], _∷_}
-use Prim.Native.Nat.{ℕ, zero, suc, _-_, _/_, _≤_, _<_}
+use mathlib.Core.List.{List, []}
+use Prim.Native.Nat.{ℕ, _-_, _≤_, _<_}
 use native.Mathlib.Nat.{div-one}
 use native.Mathlib.Omega.{arith}
 use lib.Dec.{T}
@@ -25,16 +25,16 @@ use Rattle.sheet.specs.Framed.{settingIn}
 use Rattle.script.specs.declared.command.Command.{Command}
 use Rattle.script.specs.declared.command.Decoded.{Decoded}
 use Rattle.script.specs.declared.command.Decoded.the-variants.{Command as Found, Ends}
-use Rattle.script.specs.Meaning.{meant, standing, standingOf, endNumber, scriptNumber, scriptPlace}
+use Rattle.script.specs.Meaning.{meant, standing, standingOf, endNumber, scriptNumber}
 use Rattle.script.proofs.Lines.{ends-here, in-range, line-first, others-left}
 use Rattle.script.proofs.Lines as Lines
 use Rattle.costs.specs.declared.counts.Counts.{Counts}
 use Rattle.costs.specs.declared.cost.Cost.{Cost}
 use Rattle.costs.specs.declared.spent.Spent.{Spent}
 use Rattle.costs.specs.Costing.{countsOf, costOf, spentOf, Costs, Within, Summing, Supplied, Checkable}
-use Rattle.costs.proofs.Attempts.{Words, Numbers, Tried, nothing-within, costable, checkable, number-is, summing, paid-within}
+use Rattle.costs.proofs.Attempts.{Words, Numbers, Tried, nothing-within, costable, checkable, summing, paid-within}
 use Rattle.forecasting.specs.declared.lines.Foreseen.{Foreseen}
-use Rattle.forecasting.specs.Foretelling.{foreseenOf, Foresees}
+use Rattle.forecasting.specs.Forecasting.{foreseenOf, Foresees}
 
 -- lines gone over from what was spent on
 abbrev goneOver : Frame → Checks.Supply → ℕ → List Line → Checks.Spent → Paper.Foreseen

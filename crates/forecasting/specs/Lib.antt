@@ -1,1 +1,1 @@
-pub mod Foretelling
+pub mod Forecasting

@@ -5,7 +5,7 @@ ghost use mathlib.Core.Path.{_≡_};
 ghost use Rattle.model.specs.Sheet.{headerOf};
 ghost use Rattle.model.specs.Forecast as Paper;
 ghost use Rattle.sheet.specs.Framed.{Headed};
-ghost use Rattle.forecasting.specs.Foretelling.{answerOf, foreseenOf, byLength};
+ghost use Rattle.forecasting.specs.Forecasting.{answerOf, foreseenOf, byLength};
 use costs::spent;
 use lines::Foreseen;
 use sheet::frame::Frame;

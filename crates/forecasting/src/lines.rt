@@ -6,7 +6,7 @@ ghost use Rattle.model.specs.Checks as Checks;
 ghost use Rattle.model.specs.Forecast as Paper;
 ghost use Rattle.script.specs.Meaning.{scriptNumber};
 ghost use Rattle.costs.specs.Costing.{Supplied};
-ghost use Rattle.forecasting.specs.Foretelling.{foreseenOf, Foresees};
+ghost use Rattle.forecasting.specs.Forecasting.{foreseenOf, Foresees};
 use costs::check;
 use costs::cost;
 use costs::counts::Counts;

@@ -49,6 +49,6 @@ pub record Handed (o : Outcome) (n : ℕ) (log₁ shown₁ cells₀ cells₁ mar
 abbrev pub asImported : ℕ → ℕ → List ℕ → Imported
 asImported number calls seconds = record { number = number; calls = calls; out = seconds }
 
--- a forecast: the number, and the place
-abbrev pub asForetold : ℕ → ℕ → Forecast
-asForetold number place = record { number = number; place = place }
+-- a forecast: number and place
+abbrev pub asForecast : ℕ → ℕ → Forecast
+asForecast number place = record { number = number; place = place }

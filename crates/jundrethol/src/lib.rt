@@ -8,7 +8,7 @@ ghost use Rattle.model.specs.Run as Run;
 ghost use Rattle.model.specs.Calls as Calls;
 ghost use Rattle.model.specs.Columns.{columnForm, sheetForm, turnNumber, outputLeft};
 ghost use Rattle.model.specs.Forecast as Forecast;
-ghost use Rattle.jundrethol.specs.Lent.{Handed, asImported, asForetold};
+ghost use Rattle.jundrethol.specs.Lent.{Handed, asImported, asForecast};
 use machine::run;
 
 // Runs a sheet, with the byte that says who is present. Opened shares go to the log, the header's record. Registers, marks and counts go to lists of any
@@ -58,7 +58,7 @@ pub extern "C" fn jundrethol_to_sheet(columns: &[u8], sheet: &mut [u8]) -> u32
 // Whether a run would come to END, by header and script. The place goes to the place that C lends for it. Answers 0, 1 to 4, 9 to 11 or 21 to 24.
 #[no_mangle]
 pub extern "C" fn jundrethol_forecast(place: &mut u64, head: &[u8]) -> u32
-    ensures { λ r. ⌜ asForetold r (now (place .exit)) ≡ Forecast.forecast (now (head .entry)) ⌝ }
+    ensures { λ r. ⌜ asForecast r (now (place .exit)) ≡ Forecast.forecast (now (head .entry)) ⌝ }
 {
     let answer = forecasting::forecast(head);
     *place = answer.place as u64;

@@ -9,7 +9,6 @@ use lib.Dec.{T}
 use lib.ListN.{length, replicate}
 use Rattle.model.specs.Costs.{cost}
 use Rattle.model.specs.Checks as Checks
-use Rattle.model.specs.Script as Paper
 use Rattle.model.specs.Script.{Line, accepted, readingAt, scriptOf, inRanges}
 use Rattle.model.specs.Run.{nothingSpent, stopOf}
 use Rattle.model.specs.Run as Run
@@ -20,7 +19,7 @@ use Rattle.sheet.specs.Framed.{settingIn}
 use Rattle.script.specs.declared.command.Command.{Command}
 use Rattle.script.specs.declared.command.Decoded.{Decoded}
 use Rattle.script.specs.declared.command.Decoded.the-variants.{Command as Found, Ends}
-use Rattle.script.specs.Meaning.{meant, standing, goes, stops, standingOf, endNumber}
+use Rattle.script.specs.Meaning.{meant, standing, standingOf, endNumber}
 use Rattle.script.proofs.Lines.{ends-here, in-range, line-first, others-left}
 use Rattle.script.proofs.Lines as Lines
 use Rattle.costs.specs.declared.counts.Counts.{Counts}

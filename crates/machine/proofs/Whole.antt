@@ -6,7 +6,7 @@ use mathlib.Core.Bool.{Bool, true, false}
 use mathlib.Core.List.{List}
 use Prim.Native.Nat.{ℕ, _+_, _-_, _*_, _<_}
 use native.Mathlib.Omega.{arith}
-use lib.ListN.{length, getD, take, drop, replicate}
+use lib.ListN.{length, getD, drop, replicate}
 use Rattle.algebra.specs.Lists.{Below, onto}
 use Rattle.algebra.proofs.Lists.{below-nil, below-cons}
 use Rattle.model.specs.Bytes.{sevens}
@@ -14,7 +14,7 @@ use Rattle.model.specs.Deal.{Setting, Row, Deal, noRow}
 use Rattle.model.specs.Steps.{written}
 use Rattle.model.specs.Script.{Script, Line, accepted, refused, scriptOf}
 use Rattle.model.specs.Checks.{Supply}
-use Rattle.model.specs.Sheet.{headerOf, headerSize, settingWith, scriptIn, inputIn, dealIn, sheetTests, sheetNumber}
+use Rattle.model.specs.Sheet.{headerOf, headerSize, settingWith, inputIn, dealIn, sheetTests, sheetNumber}
 use Rattle.model.specs.Run.{State, Outcome, register, start, runLines, outcome, refusedInput, supplyOf, runScript, sheetScript, stopOf, run}
 use Rattle.model.specs.Exactness.{Accepted, Passes, Right}
 use Rattle.model.proofs.Trying.{given-refused}

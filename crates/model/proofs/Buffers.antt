@@ -11,7 +11,7 @@ use borrow.Author.Tests.{leb-true, le-leb}
 use lib.Dec.{T, leb}
 use lib.ListN.{length, getD, drop, length-take}
 use Rattle.algebra.proofs.Tests.{and-true, is-true, true-false, choice}
-use Rattle.model.specs.Steps.{Setting, Row, Deal}
+use Rattle.model.specs.Steps.{Setting, Row}
 use Rattle.model.specs.Script.{Command, Line, Script, accepted, refused, scriptFrom, scriptOf}
 use Rattle.model.specs.Refusing.{firstFailed}
 use Rattle.model.specs.Costs.{cost}

@@ -1,16 +1,14 @@
 -- A sheet whose bytes from a place on are 0: its rows are sharings of 0, and its masks and triples are well formed.
 -- Assumes nothing.
-use mathlib.Core.Path.{_≡_, refl, sym, ap, _∙_}
-use mathlib.Core.Bool.{Bool}
-use mathlib.Core.List.{List, [], _∷_, _++_}
-use Prim.Native.Nat.{ℕ, zero, suc, _+_, _*_, _≤_, _<_}
+use mathlib.Core.Path.{_≡_, refl}
+use mathlib.Core.List.{List, _++_}
+use Prim.Native.Nat.{ℕ, zero, suc, _+_, _*_, _≤_}
 use native.Mathlib.Nat.{zero-mod}
 use native.Mathlib.Omega.{arith}
 use lib.Dec.{T, ltb, lt→ltb}
 use lib.ListN.{getD}
 use Rattle.algebra.specs.Ring.{mul}
 use Rattle.algebra.specs.Lists.{All, none, one, allBelow}
-use Rattle.algebra.specs.Rows.{row}
 use Rattle.algebra.proofs.Rows.{row-ext}
 use Rattle.algebra.proofs.Tests.{and-both}
 use Rattle.model.specs.Fields.{Modulus, Parties}
@@ -18,12 +16,12 @@ use Rattle.model.specs.Refusing.{firstFailed}
 use Rattle.model.specs.Sharing.{Sharing, secret}
 use Rattle.model.specs.Bytes.{number, rowAt}
 use Rattle.model.specs.Steps.{Setting, Row, Triple, constant}
-use Rattle.model.specs.Sheet.{Header, settingOf, inputsAt, inputIn, dealIn, rowsAt, masksFrom, triplesFrom, all, dealRows, spell, secrets, goodMask, goodTriple, sharesBelow, aSharing, rowTests, Permitted}
+use Rattle.model.specs.Sheet.{Header, settingOf, inputsAt, inputIn, dealIn, rowsAt, masksFrom, triplesFrom, dealRows, spell, secrets, goodMask, goodTriple, sharesBelow, aSharing, rowTests, Permitted}
 use Rattle.model.proofs.Fields.{fields}
 use Rattle.model.proofs.Trying.{all-pass}
 use Rattle.model.proofs.Polynomials.{positive}
 use Rattle.model.proofs.Sharings.{test-exact}
-use Rattle.model.proofs.Shared.{Shared, shared-zero}
+use Rattle.model.proofs.Shared.{shared-zero}
 use Rattle.model.proofs.SheetDeal.{all-rows}
 use Rattle.model.proofs.Acceptance.{all-map}
 use Rattle.model.proofs.MadeSheets.{each-all, low-shares}

@@ -8,26 +8,24 @@ use Prim.Native.Nat.{ℕ, zero, suc, _+_, _-_, _*_, _≤_, _<_}
 use native.Mathlib.Nat.{zero-add, suc-add, mul-le-mul}
 use native.Mathlib.Decide.{decLe}
 use native.Mathlib.Omega.{arith}
-use borrow.Author.Tests.{eq-eqb, ne-eqb, le-leb, lt-leb}
-use lib.Dec.{T, eqb, leb, eqb→eq}
-use lib.ListN.{length, getD, take, drop, replicate, length-append, length-take, length-replicate}
+use borrow.Author.Tests.{eq-eqb, ne-eqb, le-leb}
+use lib.Dec.{T, eqb, eqb→eq}
+use lib.ListN.{length, getD, take, drop, replicate, length-append, length-replicate}
 use lib.Seq.{take-at, take-take, take-all, take-nil, length-take-le, getD-append-add}
 use Rattle.algebra.specs.Lists.{none, one}
 use Rattle.algebra.proofs.Tests.{and-left}
 use Rattle.model.specs.Fields.{fieldTests, settingTests}
 use Rattle.model.specs.Refusing.{firstFailed, given}
 use Rattle.model.specs.Presence.{everyone, PermittedSet}
-use Rattle.model.specs.Script.{Line, Script, accepted, refused, scriptOf}
+use Rattle.model.specs.Script.{Script, accepted, refused, scriptOf}
 use Rattle.model.specs.Sheet.{Header, headerOf, headerSize, maskBits, largestIn, settingOf, inputsAt, limits, impliedLength, rowCount, scriptIn, inputIn, dealIn, headerTests, limitTests, lengthTests, rowTests, sheetNumber, Permitted}
-use Rattle.model.specs.Checks.{Spent}
-use Rattle.model.specs.Run.{Outcome, Stop, nothingSpent, start, refusedInput, supplyOf, runScript, sheetScript, stopOf, outcome, run}
+use Rattle.model.specs.Run.{start, refusedInput, runScript, sheetScript, stopOf, outcome, run}
 use Rattle.model.specs.Buffers.{recordLength, revealedLength}
-use Rattle.model.specs.Exactness.{Accepted}
 use Rattle.model.specs.Refusals.{From}
 use Rattle.model.specs.Columns.{shapeTests}
-use Rattle.model.specs.Forecast.{Foreseen, headIn, headLengthTests, headTests, nothingForeseen, linesForeseen, scriptForeseen, amply, foreseen, forecast}
-use Rattle.model.specs.Forecasts.{Foretells, RightSheet, filled, OfForecast, Forecasts}
-use Rattle.model.proofs.Trying.{given-done, given-refused, numbered, holding, appended, after, all-hold, failed-in, passes, fails, others-decide, front-passes, others-pass, both-pass}
+use Rattle.model.specs.Forecast.{Foreseen, headIn, headLengthTests, headTests, nothingForeseen, linesForeseen, scriptForeseen, ampleSupply, foreseen, Forecast, forecast}
+use Rattle.model.specs.Forecasts.{endOf, RightSheet, filled, OfForecast, GoodHead, Forecasts}
+use Rattle.model.proofs.Trying.{given-refused, numbered, holding, appended, all-hold, failed-in, passes, fails, nothing-left, first-decide, others-decide, front-passes, others-pass, both-pass}
 use Rattle.model.proofs.Lengths.{header-numbered, header-read, fitting}
 use Rattle.model.proofs.SheetDeal.{implied}
 use Rattle.model.proofs.Acceptance.{sound}
@@ -117,7 +115,7 @@ module _ (s : List ℕ) where
       go (suc n) e = refl
 
   module _ (log shown : ℕ) (log-long : recordLength ≤ log) (shown-long : revealedLength ≤ shown) where
-    script-ends : sheetNumber all s ≡ 0 → (x : Script) → sheetScript s ≡ x → Follows (runScript all h s log shown x) (scriptForeseen (maskBits h) (amply h) x)
+    script-ends : sheetNumber all s ≡ 0 → (x : Script) → sheetScript s ≡ x → Follows (runScript all h s log shown x) (scriptForeseen (maskBits h) (ampleSupply h) x)
     unfolding runScript scriptForeseen linesForeseen start
     script-ends e (refused number place) q = record { number = refl; place = refl; spent = refl }
     script-ends e (accepted xs end) q =
@@ -131,28 +129,34 @@ module _ (s : List ℕ) where
     ends-alike R = rw (same-number R, same-script, same-header) (go (sheetNumber all s) refl)
       where
         go : (n : ℕ) → sheetNumber all s ≡ n
-            → Follows (given n (runScript all h s log shown (sheetScript s)) (refusedInput n 0)) (given n (scriptForeseen (maskBits h) (amply h) (sheetScript s)) (nothingForeseen n 0))
+            → Follows (given n (runScript all h s log shown (sheetScript s)) (refusedInput n 0)) (given n (scriptForeseen (maskBits h) (ampleSupply h) (sheetScript s)) (nothingForeseen n 0))
         go zero e = script-ends e (sheetScript s) refl
         go (suc n) e = record { number = refl; place = refl; spent = refl }
 
-as-run : (s log revealed : List ℕ) → RightSheet s → recordLength ≤ length log → revealedLength ≤ length revealed
-    → Foretells (foreseen (headIn s)) (run (everyone (headerOf s .n)) s log revealed)
-unfolding run outcome
-as-run s log revealed R l k =
-    let F = ends-alike s (length log) (length revealed) l k R in
-    record { number = F .number; place = F .place; counts = ap (λ (x : Spent). x .counts) (F .spent); marks = ap (λ (x : Spent). x .marks) (F .spent) }
+module _ (s log revealed : List ℕ) (R : RightSheet s) (l : recordLength ≤ length log) (k : revealedLength ≤ length revealed) where
+  alike : Follows (stopOf (everyone (headerOf s .n)) s (length log) (length revealed)) (foreseen (headIn s))
+  alike = ends-alike s (length log) (length revealed) l k R
 
-as-run-with : (present : ℕ) (s log revealed : List ℕ) → PermittedSet (headerOf s .n) (headerOf s .t) present → RightSheet s
-    → recordLength ≤ length log → revealedLength ≤ length revealed → Foretells (foreseen (headIn s)) (run present s log revealed)
-as-run-with present s log revealed Q R l k =
-    let F = as-run s log revealed R l k in
-    let x = present-runs .same-run present s log revealed Q in
-    record {
-      number = F .number ∙ sym (x .number);
-      place = F .place ∙ sym (x .place);
-      counts = F .counts ∙ sym (x .counts);
-      marks = F .marks ∙ sym (x .marks);
-    }
+  as-run : forecast (headIn s) ≡ endOf (run (everyone (headerOf s .n)) s log revealed)
+  unfolding run outcome forecast
+  as-run = let F = alike in λ i. record { number = F .number i; place = F .place i }
+
+  spent-as-run : let x = run (everyone (headerOf s .n)) s log revealed in
+      foreseen (headIn s) .spent ≡ record { counts = x .counts; marks = x .marks }
+  unfolding run outcome
+  spent-as-run = alike .spent
+
+  as-run-with : (present : ℕ) → PermittedSet (headerOf s .n) (headerOf s .t) present → forecast (headIn s) ≡ endOf (run present s log revealed)
+  as-run-with present Q =
+      let x = present-runs .same-run present s log revealed Q in
+      as-run ∙ λ i. record { number = sym (x .number) i; place = sym (x .place) i }
+
+-- where 1 to 4 do not refuse, and only there
+good-head : (s : List ℕ) → GoodHead s → firstFailed (headTests s) ≡ 0
+unfolding headTests headLengthTests
+good-head s G =
+    let h = headerOf s in
+    both-pass (headerTests s) _ (G .header) (both-pass (limitTests h) _ (G .limits) (sym (passes 4 [] (eq-eqb (length s) (inputsAt h) (G .size)) nothing-left)))
 
 -- a head that 1 to 4 do not refuse, and the sheet that is filled up from it
 module _ (s : List ℕ) (e : firstFailed (headTests s) ≡ 0) where
@@ -219,22 +223,36 @@ module _ (s : List ℕ) (e : firstFailed (headTests s) ≡ 0) where
   filled-number = rw filled-header at filled-passes
 
 -- what is refused
-head-first : (s : List ℕ) → firstFailed (headTests s) ≢ 0 → forecast s ≡ record { number = firstFailed (headTests s); place = 0 }
+head-refused : (s : List ℕ) {n : ℕ} → n ≢ 0 → n ≡ firstFailed (headTests s) → forecast s ≡ record { number = n; place = 0 }
 unfolding forecast foreseen
-head-first s z = ap (λ (e : Foreseen). record { number = e .number; place = e .place }) (given-refused (firstFailed (headTests s)) _ _ z)
+head-refused s {n} z e =
+    rw e (ap (λ (e : Foreseen). record { number = e .number; place = e .place }) (given-refused (firstFailed (headTests s)) _ _ (λ q. z (e ∙ q))))
 
-four : (s : List ℕ) → firstFailed (headTests s) ≡ 4 → forecast s ≡ record { number = 4; place = 0 }
-four s e = head-first s (λ z. omega arith) ∙ rw e
+header-first : (s : List ℕ) → firstFailed (headerTests s) ≢ 0 → forecast s ≡ record { number = firstFailed (headerTests s); place = 0 }
+unfolding headTests
+header-first s z = head-refused s z (first-decide (headerTests s) _ refl z)
+
+-- the limits, and the length after them: both answer 4
+fours : (b : Bool) (xs : List (Bool × ℕ)) → 4 ≡ firstFailed xs → 4 ≡ firstFailed ((b, 4) ∷ xs)
+fours true xs k = passes 4 xs refl k
+fours false xs k = fails 4 xs refl
+
+limits-next : (s : List ℕ) → firstFailed (headerTests s) ≡ 0 → firstFailed (limitTests (headerOf s)) ≢ 0 → forecast s ≡ record { number = 4; place = 0 }
+unfolding headTests limitTests
+limits-next s e z =
+    let h = headerOf s in
+    head-refused s (λ q. omega arith) (others-decide (headerTests s) _ (header-numbered s) (sym e) refl (go (limits h) z _))
+  where
+    go : (b : Bool) → firstFailed ((b, 4) ∷ []) ≢ 0 → (xs : List (Bool × ℕ)) → 4 ≡ firstFailed ((b, 4) ∷ xs)
+    go true z xs = absurd (z (sym (passes 4 [] refl nothing-left)))
+    go false z xs = fails 4 xs refl
 
 other-length : (s : List ℕ) → firstFailed (headerTests s) ≡ 0 → length s ≢ inputsAt (headerOf s) → forecast s ≡ record { number = 4; place = 0 }
 unfolding headTests headLengthTests limitTests
 other-length s e z =
     let h = headerOf s in
-    four s (sym (others-decide (headerTests s) _ (header-numbered s) (sym e) refl (go (limits h) _ (fails 4 [] (ne-eqb (length s) (inputsAt h) z)))))
-  where
-    go : (b : Bool) (xs : List (Bool × ℕ)) → 4 ≡ firstFailed xs → 4 ≡ firstFailed ((b, 4) ∷ xs)
-    go true xs k = passes 4 xs refl k
-    go false xs k = fails 4 xs refl
+    head-refused s (λ q. omega arith)
+    (others-decide (headerTests s) _ (header-numbered s) (sym e) refl (fours (limits h) _ (fails 4 [] (ne-eqb (length s) (inputsAt h) z))))
 
 whole-sheet : (s : List ℕ) → firstFailed (shapeTests s) ≡ 0 → 0 < rowCount (headerOf s) → forecast s ≡ record { number = 4; place = 0 }
 unfolding shapeTests
@@ -244,10 +262,9 @@ whole-sheet s w k =
     let rows : 1 ≤ headerOf s .n * rowCount (headerOf s) = mul-le-mul {n₁ = 1} {m₁ = 1} (omega arith) (omega arith) in
     other-length s e (λ q. omega (arith, shaped-length s w))
 
-script-next : (s : List ℕ) (number place : ℕ) → firstFailed (headTests s) ≡ 0 → sheetScript s ≡ refused number place
-    → forecast s ≡ record { number = number; place = place }
+script-next : (s : List ℕ) (number place : ℕ) → GoodHead s → sheetScript s ≡ refused number place → forecast s ≡ record { number = number; place = place }
 unfolding forecast foreseen scriptForeseen
-script-next s number place e q = rw (e, q) refl
+script-next s number place G q = rw (good-head s G, q) refl
 
 head-most : (s : List ℕ) → firstFailed (headTests s) ≢ 0 → From 1 4 (firstFailed (headTests s))
 unfolding fieldTests settingTests headerTests limitTests headLengthTests headTests
@@ -275,33 +292,38 @@ run-number s log revealed e l k = go (sheetScript s) refl
         late (no-run-outgrows (everyone (headerOf s .n)) s log revealed l k)
         (numbers .of-run (everyone (headerOf s .n)) s log revealed .state .1 (record { lines = xs; end = end; number = e; script = q }))
 
--- so of its forecast, since the sheet that is filled up from a head is such a sheet
-as-filled : (s : List ℕ) → firstFailed (headTests s) ≡ 0 → (log revealed : List ℕ) → recordLength ≤ length log → revealedLength ≤ length revealed
-    → OfForecast (forecast s .number)
-unfolding forecast
-as-filled s e log revealed l k =
-    let x = filled s in
-    let q = ap (λ (y : List ℕ). foreseen y .number) (sym (filled-head s e)) ∙ as-run x log revealed (filled-right s e) l k .number in
-    subst OfForecast (sym q) (run-number x log revealed (filled-passes s e) l k)
+-- the sheet that is filled up from a head is such a sheet
+module _ (s log revealed : List ℕ) (e : firstFailed (headTests s) ≡ 0) (l : recordLength ≤ length log) (k : revealedLength ≤ length revealed) where
+  own-run : forecast s ≡ endOf (run (everyone (headerOf (filled s) .n)) (filled s) log revealed)
+  own-run = ap forecast (sym (filled-head s e)) ∙ as-run (filled s) log revealed (filled-right s e) l k
+
+  as-filled : forecast s ≡ endOf (run (everyone (headerOf s .n)) (filled s) log revealed)
+  as-filled = own-run ∙ ap (λ (h : Header). endOf (run (everyone (h .n)) (filled s) log revealed)) (filled-header s e)
+
+  own-number : OfForecast (forecast s .number)
+  own-number = subst (λ (x : Forecast). OfForecast (x .number)) (sym own-run) (run-number (filled s) log revealed (filled-passes s e) l k)
 
 of-forecast : (s : List ℕ) → OfForecast (forecast s .number)
 of-forecast s = go (firstFailed (headTests s)) refl
   where
     go : (n : ℕ) → firstFailed (headTests s) ≡ n → OfForecast (forecast s .number)
-    go zero e = as-filled s e (replicate recordLength 0) (replicate revealedLength 0) (rw length-replicate (omega arith)) (rw length-replicate (omega arith))
+    go zero e = own-number s (replicate recordLength 0) (replicate revealedLength 0) e (rw length-replicate (omega arith)) (rw length-replicate (omega arith))
     go (suc n) e =
         let z : firstFailed (headTests s) ≢ 0 = λ q. omega arith in
-        rw (head-first s z) (inr (inl (head-most s z)))
+        rw (head-refused s z refl) (inr (inl (head-most s z)))
 
 pub forecasts : Forecasts
 forecasts =
     record {
       as-run = as-run;
-      as-run-with = as-run-with;
-      has-sheet = λ s e. (filled-head s e, filled-number s e);
-      head-first = head-first;
+      as-run-with = λ present s log revealed Q R l k. as-run-with s log revealed R l k present Q;
+      spent-as-run = spent-as-run;
+      header-first = header-first;
+      limits-next = limits-next;
       other-length = other-length;
       whole-sheet = whole-sheet;
       script-next = script-next;
+      has-sheet = λ s G. let e = good-head s G in (filled-head s e, filled-header s e, filled-right s e, filled-number s e);
+      as-filled = λ s log revealed G l k. as-filled s log revealed (good-head s G) l k;
       numbers = of-forecast;
     }

@@ -1,20 +1,19 @@
 -- The lines of a script gone over without rows, beside their run: they end alike.
 -- Assumes nothing.
-use mathlib.Core.Path.{_≡_, refl, sym}
+use mathlib.Core.Path.{_≡_, refl}
 use mathlib.Core.List.{List, [], _∷_}
 use Prim.Native.Nat.{ℕ, zero, suc, _≤_}
-use native.Mathlib.Omega.{arith}
 use lib.ListN.{length}
 use Rattle.model.specs.Refusing.{given}
 use Rattle.model.specs.Steps.{Row}
 use Rattle.model.specs.Script.{Line}
 use Rattle.model.specs.Costs.{modTriples, cost}
-use Rattle.model.specs.Checks.{Spent, check, pay}
+use Rattle.model.specs.Checks.{Spent, check}
 use Rattle.model.specs.Commands.{throughLines}
 use Rattle.model.specs.Sheet.{Header, maskBits, settingWith}
 use Rattle.model.specs.Run.{State, Stop, finish, runLines, supplyOf}
 use Rattle.model.specs.Buffers.{recordLength, revealedLength}
-use Rattle.model.specs.Forecast.{Foreseen, amply}
+use Rattle.model.specs.Forecast.{Foreseen, ampleSupply}
 use Rattle.model.proofs.StepLaws.{run-end, run-line}
 use Rattle.model.proofs.Lengths.{Fitting}
 use Rattle.model.proofs.Buffers.{Before, same-check, finished}
@@ -34,7 +33,7 @@ module _ (h : Header) (fits : Fitting h) (people : h .n ≤ 7) (log shown : ℕ)
     (present : ℕ) (input : List Row) (end : ℕ) where
   -- the lines from what was spent on
   abbrev goneOver : List Line → Spent → Foreseen
-  goneOver xs s = throughLines (λ e. e) (λ j c g go. go g) (modTriples (maskBits h)) (amply h) end xs s []
+  goneOver xs s = throughLines (λ e. e) (λ j c g go. go g) (modTriples (maskBits h)) (ampleSupply h) end xs s []
 
   pub follows : (xs : List Line) (s : State) → Before (s .spent) (length xs)
       → Follows (runLines (settingWith present h) (supplyOf h log shown) input end xs s) (goneOver xs (s .spent))

@@ -140,5 +140,5 @@ asSheet = turned sheetForm
 abbrev pub ForecastCase : Type 0
 ForecastCase = Told Forecast
 
-abbrev pub foretold : List ℕ → ℕ → ℕ → ForecastCase
-foretold head number place = record { computed = forecast head; told = record { number = number; place = place } }
+abbrev pub forecastOf : List ℕ → ℕ → ℕ → ForecastCase
+forecastOf head number place = record { computed = forecast head; told = record { number = number; place = place } }

@@ -45,15 +45,15 @@ scriptForeseen l u (refused number place) = nothingForeseen number place
 scriptForeseen l u (accepted xs end) = linesForeseen l u end xs
 
 -- "given large enough buffers": what the header says that there is, and the buffers of program table, by which 25 and 26 never come (`Forecasts`)
-abbrev pub amply : Header → Supply
-amply h = supplyOf h recordLength revealedLength
+abbrev pub ampleSupply : Header → Supply
+ampleSupply h = supplyOf h recordLength revealedLength
 
 -- "1 to 4, then 9 to 11, then 21 to 24, as in the paper"
 unfoldable pub foreseen : List ℕ → Foreseen
 foreseen s =
     let h = headerOf s in
     let number = firstFailed (headTests s) in
-    given number (scriptForeseen (maskBits h) (amply h) (sheetScript s)) (nothingForeseen number 0)
+    given number (scriptForeseen (maskBits h) (ampleSupply h) (sheetScript s)) (nothingForeseen number 0)
 
 -- "It gives number and place."
 pub record Forecast : Type 0 where

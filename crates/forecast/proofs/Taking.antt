@@ -4,21 +4,19 @@ use mathlib.Core.Path.{_≡_, refl, sym, ap, _∙_}
 use mathlib.Core.Logic.{_≢_}
 use mathlib.Core.Bool.{Bool, true, false}
 use mathlib.Core.List.{List, [], _++_, append-assoc}
-use Prim.Native.Nat.{ℕ, _+_, _*_, _≤_}
+use Prim.Native.Nat.{ℕ, _+_}
 use native.Mathlib.Omega.{arith}
 use lib.Dec.{eqb}
 use lib.ListN.{length, take}
 use lib.Seq.{take-length, length-take-le}
-use Rattle.model.specs.Refusing.{firstFailed, given}
 use Rattle.model.specs.Sheet.{headerOf, inputsAt, impliedLength, headerTests, limitTests, lengthTests}
 use Rattle.model.specs.Columns.{shapeTests}
-use Rattle.model.specs.Forecast.{headIn}
-use Rattle.model.proofs.Trying.{given-done, given-refused, passes, fails, nothing-left, first-decide, others-decide, told}
-use Rattle.model.proofs.SheetDeal.{implied}
+use Rattle.model.specs.Forecast.{headIn, Foreseen, foreseen}
+use Rattle.model.proofs.Trying.{given-refused, passes, fails, nothing-left, first-decide, others-decide, told}
 use Rattle.sheet.specs.declared.frame.Frame.{Frame}
 use Rattle.sheet.specs.declared.header.Read.{Read}
 use Rattle.sheet.specs.declared.header.Read.the-variants.{Sheet, Refused}
-use Rattle.sheet.specs.Framed.{Headed, Whole}
+use Rattle.sheet.specs.Framed.{Headed}
 use Rattle.sheet.specs.Reading.{Reads}
 use Rattle.sheet.proofs.Answers.{whole, header-tests-numbered}
 use Rattle.forecast.specs.Taken.{taken, takenBy, Cut}
@@ -62,3 +60,7 @@ module _ (s : List ℕ) {r : Read} (A : Reads (headerTests s ++ limitTests (head
 -- as many bytes as are taken
 pub part-length : (s : List ℕ) {part : List ℕ} {n : ℕ} → Cut s part n → n ≡ length (take n s)
 part-length s {n = n} C = sym (length-take-le n s (C .within))
+
+-- what is foreseen of the bytes that are taken
+pub of-part : (s : List ℕ) {part : List ℕ} {n : ℕ} {a : Foreseen} → Cut s part n → a ≡ foreseen (take n s) → a ≡ foreseen part
+of-part s C e = e ∙ ap foreseen (C .is)

@@ -1,10 +1,10 @@
--- `head_length` meets its contract: the header, then the length.
+-- `cutting::head_length` meets its contract: the header, then the length.
 -- Assumes nothing.
 use Rattle.sheet.proofs.Answers.{header-frame}
 use borrow.Author.Needs.{needs}
-use Rattle.forecast.proofs.Cutting.{header-passes, header-refused}
-use Rattle.forecast.proofs.head_length.Statement.{statement}
-use Rattle.forecast.proofs.head_length.Tie as tie
+use Rattle.forecast.proofs.Taking.{header-passes, header-refused}
+use Rattle.forecast.proofs.cutting.head_length.Statement.{statement}
+use Rattle.forecast.proofs.cutting.head_length.Tie as tie
 
 pub head-length-spec : {M : Type 1} → statement M
 head-length-spec =

@@ -31,4 +31,4 @@ abbrev pub byLength : List ℕ → Paper.Foreseen
 byLength s =
     let h = headerOf s in
     let number = firstFailed (Paper.headLengthTests h s) in
-    given number (Paper.scriptForeseen (maskBits h) (Paper.amply h) (sheetScript s)) (Paper.nothingForeseen number 0)
+    given number (Paper.scriptForeseen (maskBits h) (Paper.ampleSupply h) (sheetScript s)) (Paper.nothingForeseen number 0)
