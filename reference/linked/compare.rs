@@ -28,9 +28,9 @@ use reference::cases::generator::Generator;
 use reference::cases::{self, case_for, sum_for};
 use reference::columns;
 use reference::columns::drawn::turn_for;
-use reference::compare::foretold::is_foretold;
+use reference::compare::forecasts::is_decided_by_head;
 use reference::compare::summed::{recovery, recovery_difference};
-use reference::compare::{Entered, Foretold, Imported, Lengths, Ran, Turned};
+use reference::compare::{Entered, Forecast, Imported, Lengths, Ran, Turned};
 use reference::forecast::drawn::head_for;
 use reference::forecast::{self, head_of};
 use reference::present::everyone_of;
@@ -79,7 +79,7 @@ struct Tally {
     turns: Numbers,
     forecasts: Numbers,
     /// How many of them were compared with a run.
-    foretold: u64,
+    against_runs: u64,
     differing: usize,
 }
 
@@ -153,8 +153,8 @@ impl Tally {
     }
 
     /// The library's forecast, after it is compared.
-    fn forecast(&mut self, name: &str, head: &[u8]) -> Foretold {
-        let mut reference = Foretold::before();
+    fn forecast(&mut self, name: &str, head: &[u8]) -> Forecast {
+        let mut reference = Forecast::before();
         let mut library = reference.clone();
         reference.by_reference(head);
         forecasts::forecast(&mut library, head);
@@ -171,15 +171,15 @@ impl Tally {
 
     /// The forecast of the sheet's header and script, compared with the sheet's run too, where they decide
     /// how it ends.
-    fn foretold(&mut self, name: &str, sheet: &[u8]) {
-        if !is_foretold(sheet) {
+    fn forecast_of_sheet(&mut self, name: &str, sheet: &[u8]) {
+        if !is_decided_by_head(sheet) {
             return;
         }
-        let foretold = self.forecast(name, head_of(sheet));
+        let forecast = self.forecast(name, head_of(sheet));
         let mut ran = Ran::before(RECORD, REVEALED, Lengths::WHOLE);
         library::run(&mut ran, sheet, everyone_of(sheet));
-        self.foretold += 1;
-        if let Some(difference) = foretold.run_difference(&ran) {
+        self.against_runs += 1;
+        if let Some(difference) = forecast.run_difference(&ran) {
             let shown = &sheet[..sheet.len().min(SHOWN)];
             let length = sheet.len();
             self.differs(format!(
@@ -198,7 +198,7 @@ impl Tally {
     fn stored(&mut self) {
         for (place, case) in sheets::stored::all().iter().enumerate() {
             self.run(&format!("stored sheet {place}"), case, Lengths::WHOLE);
-            self.foretold(&format!("head of stored sheet {place}"), &case.sheet);
+            self.forecast_of_sheet(&format!("head of stored sheet {place}"), &case.sheet);
         }
         for (place, case) in cases::all().iter().enumerate() {
             self.entry(&format!("stored entry {place}"), case);
@@ -227,7 +227,7 @@ impl Tally {
         self.turn(&format!("input {seed} {index}"), &turn_for(seed, index));
         let head = head_for(seed, index).head;
         self.forecast(&format!("head {seed} {index}"), &head);
-        self.foretold(&format!("head of sheet {seed} {index}"), &case.sheet);
+        self.forecast_of_sheet(&format!("head of sheet {seed} {index}"), &case.sheet);
     }
 
     fn tell(&self) {
@@ -249,7 +249,7 @@ impl Tally {
             "{runs} runs of sheets, {} calls of small entries, {sums} of them sums, {imports} imports \
              of lists, {turns} inputs turned and {forecasts} forecasts, {} of them against a run, \
              compared, {} differ",
-            self.entries, self.foretold, self.differing
+            self.entries, self.against_runs, self.differing
         );
     }
 }

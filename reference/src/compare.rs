@@ -1,10 +1,10 @@
 //! What a call leaves in everything that its caller lends, and where two calls differ.
 
-pub mod foretold;
+pub mod forecasts;
 pub mod summed;
 mod turned;
 
-pub use foretold::Foretold;
+pub use forecasts::Forecast;
 pub use turned::Turned;
 
 use std::fmt::Display;

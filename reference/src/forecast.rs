@@ -7,6 +7,7 @@ mod draft;
 pub mod drawn;
 pub mod examples;
 mod fault;
+pub mod gate;
 pub mod held;
 pub mod printed;
 pub mod stored;

@@ -38,6 +38,8 @@ example-head NAME writes header and script of an example; the names are HEADS
 largest           writes a sheet that reaches every limit
 gate-sheets       writes the names of the further sheets that the gate runs, one to a line
 gate-sheet NAME   writes the sheet with such a name
+gate-heads        writes the names of the further heads that the gate forecasts, one to a line
+gate-head NAME    writes the head with such a name
 --help            writes this
 
 Exits with 1 if the work fails, with 2 if the words are wrong.
@@ -74,13 +76,14 @@ fn main() -> ExitCode {
         ["example-list", name] => example_list(name),
         ["example-head", name] => example_head(name),
         ["largest"] => write_out(&sheets::bench::largest()),
-        ["gate-sheets"] => write_out(gate_names().as_bytes()),
+        ["gate-sheets"] => write_out(names_of(&sheets::gate::all()).as_bytes()),
         ["gate-sheet", name] => gate_sheet(name),
+        ["gate-heads"] => write_out(names_of(&forecast::gate::all()).as_bytes()),
+        ["gate-head", name] => gate_head(name),
         ["--help"] => write_out(help().as_bytes()),
         [] => return refuse("a word is missing"),
-        ["example" | "example-list" | "example-head" | "gate-sheet" | "model-cases"] => {
-            return refuse(&format!("{}: the NAME is missing", words[0]))
-        }
+        ["example" | "example-list" | "example-head" | "gate-sheet" | "gate-head"
+        | "model-cases"] => return refuse(&format!("{}: the NAME is missing", words[0])),
         _ => return refuse(&format!("not understood: {}", words.join(" "))),
     };
     ended(outcome)
@@ -205,10 +208,14 @@ fn gate_sheet(name: &str) -> Result<(), String> {
     write_out(&sheet)
 }
 
+fn gate_head(name: &str) -> Result<(), String> {
+    let head = forecast::gate::named(name).ok_or_else(|| format!("no gate head {name}"))?;
+    write_out(&head)
+}
+
 /// Each name on a line of its own.
-fn gate_names() -> String {
-    let sheets = sheets::gate::all();
-    sheets.iter().map(|(name, _)| format!("{name}\n")).collect()
+fn names_of(named: &[(String, Vec<u8>)]) -> String {
+    named.iter().map(|(name, _)| format!("{name}\n")).collect()
 }
 
 fn help() -> String {

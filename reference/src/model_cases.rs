@@ -86,7 +86,7 @@ fn column_table() -> String {
 
 fn forecast_table() -> String {
     file(
-        "Request 6, \"Will this deal last?\": short headers with their scripts, and the number and the place that are foretold.",
+        "Request 6, \"Will this deal last?\": short headers with their scripts, and the number and the place that are forecast.",
         ("ForecastCase", "forecastCases"),
         heads::all().iter().map(forecast_row).collect(),
     )
@@ -129,7 +129,7 @@ fn file(subject: &str, (kind, name): (&str, &str), rows: Vec<Row>) -> String {
         "took",
         "asColumns",
         "asSheet",
-        "foretold",
+        "forecastOf",
     ]);
     text += &format!("use Rattle.model.specs.CaseForms.{{{kind}{forms}}}\n\n");
     text + &format!("unfoldable pub {name} : List {kind}\n{name} =\n{body}    ∷ []\n")
@@ -331,7 +331,7 @@ fn turn_row(held: &turns::Held) -> Row {
 fn forecast_row(held: &heads::Held) -> Row {
     let (number, place) = forecast(&held.head);
     let head = list(&held.head);
-    let row = vec![format!("foretold {head} {number} {place}")];
+    let row = vec![format!("forecastOf {head} {number} {place}")];
     (held.says.clone(), row)
 }
 
@@ -481,7 +481,7 @@ mod tests {
         assert!(text("EntryCases").unwrap().contains(row));
         let row = "    -- 1: no byte, to the sheet\n    ∷ asSheet [] 12 1 (from 100 12)\n";
         assert!(text("ColumnCases").unwrap().contains(row));
-        let row = "    -- 1: no byte\n    ∷ foretold [] 1 0\n";
+        let row = "    -- 1: no byte\n    ∷ forecastOf [] 1 0\n";
         assert!(text("ForecastCases").unwrap().contains(row));
     }
 }

@@ -3,7 +3,7 @@
 mod files;
 
 use files::text;
-use reference::{calls, case, cases, columns, run_case, sheets, steps};
+use reference::{calls, case, cases, columns, forecast, run_case, sheets, steps};
 
 /// The bytes that the program of this crate can read.
 fn buffer(name: &str) -> usize {
@@ -29,4 +29,6 @@ fn stored_cases_leave_a_place_in_the_program_s_buffer() {
     leave_a_place("call_cases", all, calls::case::Case::to_bytes);
     let all = columns::stored::all();
     leave_a_place("column_cases", all, columns::case::Case::to_bytes);
+    let all = forecast::stored::all();
+    leave_a_place("forecast_cases", all, forecast::case::Case::to_bytes);
 }

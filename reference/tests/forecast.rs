@@ -3,7 +3,7 @@
 use reference::field::FIELDS;
 use reference::forecast::drawn::head_for;
 use reference::forecast::printed::lines;
-use reference::forecast::{forecast, head_of, stored as heads};
+use reference::forecast::{forecast, gate as gate_heads, head_of, stored as heads};
 use reference::present::everyone_of;
 use reference::run::{run, Answer};
 use reference::run_case::Case;
@@ -177,18 +177,26 @@ fn needed(head: &[u8]) -> Option<Vec<u16>> {
     Some(numbers.into_iter().step_by(2).collect())
 }
 
-/// Of everything that is needed one less is refused with its number, and before END.
+/// Of everything that is needed one less is refused with its number, and before END. Where a header cannot
+/// count so much, that is said.
 #[test]
 fn what_is_said_to_be_needed_suffices_and_one_less_does_not() {
     let mut refused = [0; 3];
-    for index in 0..10_000 {
-        let input = head_for(25, index).head;
+    let mut over = 0;
+    let drawn = (0..10_000).map(|index| head_for(25, index));
+    let of_cases = heads::all().into_iter().chain(drawn).map(|case| case.head);
+    let gate = gate_heads::all().into_iter().map(|(_, head)| head);
+    for input in of_cases.chain(gate) {
         let head = head_of(&input).to_vec();
         let Some(needed) = needed(&head) else {
             continue;
         };
         let enough = with_counts(&head, &needed);
-        if is_over_a_limit(&enough) {
+        let is_over = is_over_a_limit(&enough);
+        let said = lines(&head).ends_with(", more than a header may count.\n");
+        assert_eq!(said, is_over, "{head:?}");
+        if is_over {
+            over += 1;
             continue;
         }
         let (number, end) = forecast(&enough);
@@ -205,6 +213,7 @@ fn what_is_said_to_be_needed_suffices_and_one_less_does_not() {
         }
     }
     assert!(refused.iter().all(|&count| count > 2_000), "{refused:?}");
+    assert!(over >= 3, "{over}");
 }
 
 /// Every number of 21 to 24 of every command that it can refuse is told with the command's name.

@@ -1,7 +1,7 @@
 -- Request 6, "Will this deal last?": short headers with their scripts, and the number and the place that are forecast.
 -- The reference writes this table (reference model-cases).
 -- Assumes nothing.
-use mathlib.Core.List.{List, [], _∷_}
+use mathlib.Core.List.{List, [], _∷_, _++_}
 use lib.ListN.{replicate}
 use Rattle.model.specs.CaseForms.{ForecastCase, forecastOf}
 
@@ -45,6 +45,12 @@ forecastCases =
     ∷ forecastOf (0 ∷ 8 ∷ 1 ∷ 65 ∷ 0 ∷ 0 ∷ 0 ∷ 0 ∷ 0 ∷ 1 ∷ 0 ∷ 14 ∷ []) 3 0
     -- 4 before 9
     ∷ forecastOf (0 ∷ 3 ∷ 1 ∷ 65 ∷ 0 ∷ 0 ∷ 0 ∷ 0 ∷ 0 ∷ 1 ∷ 0 ∷ 14 ∷ []) 4 0
+    -- 2 before 4: a byte too many in field 4
+    ∷ forecastOf (4 ∷ 3 ∷ 1 ∷ 0 ∷ 0 ∷ 0 ∷ 0 ∷ 0 ∷ 0 ∷ 1 ∷ 0 ∷ 0 ∷ 0 ∷ []) 2 0
+    -- 3 before 4: a byte too many for eight parties
+    ∷ forecastOf (0 ∷ 8 ∷ 1 ∷ 0 ∷ 0 ∷ 0 ∷ 0 ∷ 0 ∷ 0 ∷ 1 ∷ 0 ∷ 0 ∷ 0 ∷ []) 3 0
+    -- 4 before 9: 65 inputs, and a byte too many after no command
+    ∷ forecastOf (0 ∷ 3 ∷ 1 ∷ 65 ∷ 0 ∷ 0 ∷ 0 ∷ 0 ∷ 0 ∷ 1 ∷ 0 ∷ 14 ∷ 0 ∷ []) 4 0
     -- 10: an empty script
     ∷ forecastOf (0 ∷ 3 ∷ 1 ∷ 0 ∷ 0 ∷ 0 ∷ 0 ∷ 0 ∷ 0 ∷ 0 ∷ 0 ∷ []) 10 0
     -- 9 before 21: a byte that is no command
@@ -95,6 +101,10 @@ forecastCases =
     ∷ forecastOf (0 ∷ 3 ∷ 1 ∷ 1 ∷ 0 ∷ 0 ∷ 0 ∷ 2 ∷ 0 ∷ 11 ∷ 0 ∷ 1 ∷ 0 ∷ 6 ∷ 0 ∷ 0 ∷ 0 ∷ 6 ∷ 0 ∷ 0 ∷ 0 ∷ 0 ∷ []) 0 10
     -- BITLT with w = 1 takes no triple
     ∷ forecastOf (0 ∷ 3 ∷ 1 ∷ 1 ∷ 0 ∷ 0 ∷ 0 ∷ 0 ∷ 0 ∷ 11 ∷ 0 ∷ 1 ∷ 0 ∷ 13 ∷ 0 ∷ 0 ∷ 1 ∷ 1 ∷ 0 ∷ 0 ∷ 0 ∷ 0 ∷ []) 0 10
+    -- 64 additions, and END after 255
+    ∷ forecastOf (0 ∷ 3 ∷ 1 ∷ 1 ∷ 0 ∷ 0 ∷ 0 ∷ 0 ∷ 0 ∷ 3 ∷ 1 ∷ 1 ∷ (replicate 257 3 ++ 0 ∷ [])) 0 258
+    -- 24: a product after 255 without a triple
+    ∷ forecastOf (0 ∷ 3 ∷ 1 ∷ 1 ∷ 0 ∷ 0 ∷ 0 ∷ 0 ∷ 0 ∷ 7 ∷ 1 ∷ 1 ∷ (replicate 257 3 ++ 6 ∷ 3 ∷ 3 ∷ 3 ∷ 0 ∷ [])) 24 258
     -- BITLT w=3 takes 2 triples
     ∷ forecastOf (0 ∷ 3 ∷ 1 ∷ 3 ∷ 0 ∷ 0 ∷ 0 ∷ 2 ∷ 0 ∷ 15 ∷ 0 ∷ 1 ∷ 0 ∷ 1 ∷ 1 ∷ 1 ∷ 2 ∷ 13 ∷ 0 ∷ 0 ∷ 3 ∷ 1 ∷ 0 ∷ 0 ∷ 0 ∷ 0 ∷ []) 0 14
     -- 24: BITLT w=3 with a triple less

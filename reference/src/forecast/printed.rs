@@ -3,16 +3,20 @@
 mod amounts;
 
 use super::case::end_line;
-use super::course::{given, needs, needs_of_all, Stop};
+use super::course::{given, needs, needs_of_all, Counts, Stop};
 use super::{forecast, read_header};
+use crate::field::Field;
 use crate::refusal;
 use crate::script::command::{NAMES, OPERANDS};
 use crate::script::{self, Line, Refused};
 use crate::sheet::header::{self, Header, LONGEST_SCRIPT, MOST_INPUTS, MOST_MASKS, MOST_TRIPLES};
-use amounts::{left_of, listed, needed, part_of, plain};
+use amounts::{counted, left_of, listed, needed, part_of, plain};
 
 /// The program reads no more: it is one byte more than the largest sheet has.
 pub const LONGEST: usize = 59_724;
+
+/// How many input rows, masks and triples a header may count.
+const MOST: Counts = [MOST_INPUTS, MOST_MASKS, MOST_TRIPLES];
 
 /// What the program prints for header and script, or for a whole sheet.
 pub fn lines(input: &[u8]) -> String {
@@ -41,7 +45,7 @@ fn meaning(head: &[u8]) -> String {
     let script = &head[header::BYTES..];
     match script::read(script, header.field) {
         Ok(lines) => of_stop(&header, &lines),
-        Err(refused) => of_script(script, refused),
+        Err(refused) => of_script(script, header.field, refused),
     }
 }
 
@@ -56,38 +60,37 @@ fn of_header(head: &[u8], number: u32) -> String {
              most n.\n"
         ),
         _ => format!(
-            "The input has {} bytes, and a header has {}.\n",
-            head.len(),
+            "The input has {}, and a header has {}.\n",
+            counted(head.len(), "byte"),
             header::BYTES
         ),
     }
 }
 
-/// 4, of a count or of the length.
+/// 4, of a count or of the length. What follows the bytes that are read is not known.
 fn of_length(header: &Header, length: usize) -> String {
-    if header.is_within_limits() {
-        return format!(
-            "The input has {length} bytes: header and script have {}, and a whole sheet has {}.\n",
-            header.head_length(),
-            header.implied_length()
-        );
+    if !header.is_within_limits() {
+        return of_counts(header);
     }
-    let Header {
-        inputs,
-        masks,
-        triples,
-        script,
-        ..
-    } = header;
+    let or_more = if length == LONGEST { " or more" } else { "" };
     format!(
-        "A count is over its limit: {inputs} input rows of at most {MOST_INPUTS}, {masks} masks of at \
-         most {MOST_MASKS}, {triples} triples of at most {MOST_TRIPLES}, {script} script bytes of at \
-         most {LONGEST_SCRIPT}.\n"
+        "The input has {length} bytes{or_more}: header and script have {}, and a whole sheet has {}.\n",
+        header.head_length(),
+        header.implied_length()
+    )
+}
+
+fn of_counts(header: &Header) -> String {
+    let [inputs, masks, triples] = plain(given(header));
+    let script = counted(header.script, "script byte");
+    format!(
+        "A count is over its limit: {inputs} of at most {MOST_INPUTS}, {masks} of at most {MOST_MASKS}, \
+         {triples} of at most {MOST_TRIPLES}, {script} of at most {LONGEST_SCRIPT}.\n"
     )
 }
 
 /// 9, 10 or 11.
-fn of_script(script: &[u8], Refused { number, place }: Refused) -> String {
+fn of_script(script: &[u8], field: &Field, Refused { number, place }: Refused) -> String {
     match (number, script.get(place)) {
         (refusal::COMMAND, Some(byte)) => format!(
             "The byte at {place} is {byte}, and the last command is {}.\n",
@@ -97,11 +100,20 @@ fn of_script(script: &[u8], Refused { number, place }: Refused) -> String {
             "{} at {place} has an operand out of range.\n",
             NAMES[usize::from(byte)]
         ),
-        (_, Some(_)) => {
-            format!("At {place} the script ends within a command, or goes on after END.\n")
+        (_, Some(_)) if is_whole(&script[..place], field) => {
+            format!("Bytes follow END, from {place} on.\n")
         }
-        (_, None) => format!("The script has {place} bytes and no END.\n"),
+        (_, Some(&byte)) => format!(
+            "{} at {place} is cut off by the script's end.\n",
+            NAMES[usize::from(byte)]
+        ),
+        (_, None) => format!("The script has {} and no END.\n", counted(place, "byte")),
     }
+}
+
+/// Whether the bytes are commands of which the last is END.
+fn is_whole(script: &[u8], field: &Field) -> bool {
+    script::read(script, field).is_ok()
 }
 
 /// 0, or 21 to 24.
@@ -124,9 +136,20 @@ fn of_stop(header: &Header, lines: &[Line]) -> String {
     let (needed, left) = (needed(needs), left_of(needs, stop.left, given));
     let mut text = format!("{name} at {place} needs {needed}: {left} are left.\n");
     if let Some(all) = needs_of_all(lines, header.field) {
-        text += &format!("The whole script needs {}.\n", listed(plain(all)));
+        text += &of_all(all);
     }
     text
+}
+
+/// What the whole script needs, and whether there can be no sheet that has it.
+fn of_all(needs: Counts) -> String {
+    let is_over = needs.iter().zip(MOST).any(|(&count, most)| count > most);
+    let over = if is_over {
+        ", more than a header may count"
+    } else {
+        ""
+    };
+    format!("The whole script needs {}{over}.\n", listed(plain(needs)))
 }
 
 #[cfg(test)]
@@ -165,7 +188,8 @@ mod tests {
             lines(&header[..length])
         };
         for length in 0..=10 {
-            let said = format!("The input has {length} bytes, and a header has 11.");
+            let bytes = if length == 1 { "byte" } else { "bytes" };
+            let said = format!("The input has {length} {bytes}, and a header has 11.");
             assert_eq!(of(length, 9, 9, 9), format!("end 1 at 0\n{said}\n"));
         }
         let said = "Byte 0, the field, is 17: it may be 0 to 3.";
@@ -182,13 +206,23 @@ mod tests {
         let mut head = draft.to_bytes();
         let said =
             "A count is over its limit: 65 input rows of at most 64, 2 masks of at most 16, \
-            3 triples of at most 512, 1 script bytes of at most 1024.";
+            3 triples of at most 512, 1 script byte of at most 1024.";
         let expected = format!("end 4 at 0\n{said}\n");
         assert_eq!(lines(&head), expected);
         head.push(0);
         assert_eq!(lines(&head), expected);
         head.resize(12 + 4 * 3 * (65 + 8 + 9), 0);
         assert_eq!(lines(&head), expected);
+        head.resize(LONGEST, 0);
+        assert_eq!(lines(&head), expected);
+    }
+
+    #[test]
+    fn a_count_of_one_is_told_in_the_singular() {
+        let draft = Draft::new(0, &[0; 1025]).with_counts([1, 1, 1]);
+        let said = "A count is over its limit: 1 input row of at most 64, 1 mask of at most 16, \
+            1 triple of at most 512, 1025 script bytes of at most 1024.";
+        assert_eq!(printed(draft), format!("end 4 at 0\n{said}\n"));
     }
 
     #[test]
@@ -218,7 +252,7 @@ mod tests {
         assert_eq!(sheet.len() + 1, LONGEST);
         assert!(lines(&sheet).starts_with("end 0 at 1023\n"));
         let said =
-            "The input has 59724 bytes: header and script have 1035, and a whole sheet has 59723.";
+            "The input has 59724 bytes or more: header and script have 1035, and a whole sheet has 59723.";
         for more in [1, 1, 5_000] {
             sheet.extend(vec![0; more]);
             assert_eq!(lines(&sheet), format!("end 4 at 0\n{said}\n"));
@@ -238,12 +272,13 @@ mod tests {
             (&[1, 0], "end 10 at 2\nThe script has 2 bytes and no END.\n"),
             (
                 &[1, 0, 6, 0],
-                "end 10 at 2\nAt 2 the script ends within a command, or goes on after END.\n",
+                "end 10 at 2\nMUL at 2 is cut off by the script's end.\n",
             ),
             (
-                &[1, 0, 0, 0],
-                "end 10 at 3\nAt 3 the script ends within a command, or goes on after END.\n",
+                &[1, 0, 0, 6, 0],
+                "end 10 at 3\nBytes follow END, from 3 on.\n",
             ),
+            (&[0, 14], "end 10 at 1\nBytes follow END, from 1 on.\n"),
             (
                 &[13, 0, 63, 2, 0, 0, 0, 0, 0],
                 "end 11 at 0\nBITLT at 0 has an operand out of range.\n",
@@ -259,6 +294,9 @@ mod tests {
             let script = [vec![byte as u8], vec![255; length], vec![0]].concat();
             let said = format!("{} at 0 has an operand out of range.\n", NAMES[byte]);
             assert_eq!(scripted(&script), format!("end 11 at 0\n{said}"));
+            let said = format!("{} at 0 is cut off by the script's end.\n", NAMES[byte]);
+            let cut_off = scripted(&script[..length]);
+            assert_eq!(cut_off, format!("end 10 at 0\n{said}"));
         }
     }
 
@@ -318,6 +356,18 @@ mod tests {
         let all = "The whole script needs 2 input rows, 0 masks and 0 triples.\n";
         assert_eq!(told(1), format!("{said}{all}"));
         assert_eq!(told(2), said);
+    }
+
+    /// One over each limit; the last that a header may count is told without.
+    #[test]
+    fn needs_over_a_limit_are_told_as_such() {
+        let at_most = "The whole script needs 64 input rows, 16 masks and 512 triples.\n";
+        assert_eq!(of_all(MOST), at_most);
+        let over = "The whole script needs 65 input rows, 16 masks and 512 triples, more than a header may count.\n";
+        assert_eq!(of_all([65, 16, 512]), over);
+        for needs in [[64, 17, 512], [64, 16, 513], [0, 17, 0], [0, 0, 513]] {
+            assert!(of_all(needs).ends_with(" triples, more than a header may count.\n"));
+        }
     }
 
     /// A sheet with rows is forecast by its header and script, also where a run refuses its rows.

@@ -81,8 +81,6 @@ mod tests {
     #[test]
     fn cases_and_answers_are_within_bounds() {
         STORED.is_within(1_000..=3_000, 50_000);
-        let length: usize = all().iter().map(|case| case.to_bytes().len()).sum();
-        assert!(length < 200_000, "{length}");
     }
 
     #[test]

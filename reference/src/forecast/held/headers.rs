@@ -13,6 +13,7 @@ pub fn all() -> Vec<Held> {
     all.extend(limits());
     all.extend(lengths());
     all.extend(ordered());
+    all.extend(longer());
     all
 }
 
@@ -72,5 +73,23 @@ fn ordered() -> [Held; 4] {
         held("2 before the rest", refused),
         held("3 before the rest", in_field.clone()),
         held("4 before 9", in_field.with_parties(3, 1)),
+    ]
+}
+
+/// What is refused before the length, with a byte too many.
+fn longer() -> [Held; 3] {
+    let (no_field, parties) = (Draft::new(4, &[0]), end().with_parties(8, 1));
+    let count = Draft::new(0, &[14]).with_counts([65, 0, 0]);
+    let longer = |draft: Draft| [draft.to_bytes(), vec![0]].concat();
+    [
+        held_bytes("2 before 4: a byte too many in field 4", longer(no_field)),
+        held_bytes(
+            "3 before 4: a byte too many for eight parties",
+            longer(parties),
+        ),
+        held_bytes(
+            "4 before 9: 65 inputs, and a byte too many after no command",
+            longer(count),
+        ),
     ]
 }

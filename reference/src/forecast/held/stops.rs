@@ -6,6 +6,7 @@ use crate::script::command::Command::{self, *};
 pub fn all() -> Vec<Held> {
     let mut all = unset();
     all.extend(short());
+    all.extend(far());
     all
 }
 
@@ -90,6 +91,22 @@ fn short() -> Vec<Held> {
         of(
             "BITLT with w = 1 takes no triple",
             &[load, Bitlt { d, b, w: 1, v }],
+            [1, 0, 0],
+        ),
+    ]
+}
+
+/// Places that a byte does not hold. ADD is the byte 3, and so is its register: the table needs only say how
+/// often it stands.
+fn far() -> Vec<Held> {
+    let (d, a, b) = (3, 3, 3);
+    let commands = [vec![Load { d }], vec![Add { d, a, b }; 64]].concat();
+    let product = [&commands[..], &[Mul { d, a, b }]].concat();
+    vec![
+        of("64 additions, and END after 255", &commands, [1, 0, 0]),
+        of(
+            "24: a product after 255 without a triple",
+            &product,
             [1, 0, 0],
         ),
     ]

@@ -1,16 +1,21 @@
-//! Amounts of input rows, masks and triples in words.
+//! Amounts in words, mostly of input rows, masks and triples.
 
 use crate::forecast::course::Counts;
 
 /// The name of one of each kind.
 const KINDS: [&str; 3] = ["input row", "mask", "triple"];
 
+/// `1 byte`, and else `0 bytes`.
+pub fn counted(count: usize, name: &str) -> String {
+    match count {
+        1 => format!("1 {name}"),
+        _ => format!("{count} {name}s"),
+    }
+}
+
 /// `3 input rows`, `0 masks` and `1 triple`.
 pub fn plain(counts: Counts) -> [String; 3] {
-    std::array::from_fn(|kind| match counts[kind] {
-        1 => format!("1 {}", KINDS[kind]),
-        count => format!("{count} {}s", KINDS[kind]),
-    })
+    std::array::from_fn(|kind| counted(counts[kind], KINDS[kind]))
 }
 
 /// `2 of 3 input rows`, `0 of 0 masks` and `1 of 1 triples`.
@@ -42,6 +47,12 @@ fn joined(needs: Counts, parts: [String; 3]) -> String {
 #[cfg(test)]
 mod tests {
     use super::*;
+
+    #[test]
+    fn only_one_is_in_the_singular() {
+        let bytes = [0, 1, 2, 21].map(|count| counted(count, "byte"));
+        assert_eq!(bytes, ["0 bytes", "1 byte", "2 bytes", "21 bytes"]);
+    }
 
     #[test]
     fn kinds_that_are_not_needed_are_left_out() {

@@ -9,15 +9,15 @@ use crate::sheet::Sheet;
 
 /// What a forecast answers.
 #[derive(Clone, Debug, PartialEq)]
-pub struct Foretold {
+pub struct Forecast {
     pub number: u32,
     pub place: u64,
 }
 
-impl Foretold {
+impl Forecast {
     /// Before: numbers that are never answered.
-    pub fn before() -> Foretold {
-        Foretold {
+    pub fn before() -> Forecast {
+        Forecast {
             number: u32::MAX,
             place: u64::MAX,
         }
@@ -31,22 +31,22 @@ impl Foretold {
     }
 
     /// Where the library's forecast differs first from this one, the reference's.
-    pub fn difference(&self, library: &Foretold) -> Option<String> {
+    pub fn difference(&self, library: &Forecast) -> Option<String> {
         difference("number", self.number, library.number)
             .or_else(|| difference("place", self.place, library.place))
     }
 
     /// Where the run ended otherwise. It has all its counts, of which the place is the first.
     pub fn run_difference(&self, ran: &Ran) -> Option<String> {
-        let (foretold, ended) = ((self.number, self.place), (ran.number, ran.counts[0]));
-        let differ = foretold != ended;
-        differ.then(|| format!("number and place forecast {foretold:?}, of the run {ended:?}"))
+        let (forecast, ended) = ((self.number, self.place), (ran.number, ran.counts[0]));
+        let differ = forecast != ended;
+        differ.then(|| format!("number and place forecast {forecast:?}, of the run {ended:?}"))
     }
 }
 
 /// Whether header and script decide how the sheet's run ends, with everyone present and large enough
 /// buffers: not where a row is refused, or the length alone.
-pub fn is_foretold(sheet: &[u8]) -> bool {
+pub fn is_decided_by_head(sheet: &[u8]) -> bool {
     match Sheet::read(sheet, everyone_of(sheet)).err() {
         Some(refusal::VALUE..=refusal::TRIPLE) => false,
         Some(refusal::LENGTH) => {
@@ -64,10 +64,10 @@ mod tests {
     use crate::sheets::{bench, gate};
     use crate::table::{RECORD, REVEALED};
 
-    fn foretold(head: &[u8]) -> Foretold {
-        let mut foretold = Foretold::before();
-        foretold.by_reference(head);
-        foretold
+    fn by_reference(head: &[u8]) -> Forecast {
+        let mut forecast = Forecast::before();
+        forecast.by_reference(head);
+        forecast
     }
 
     fn ran(sheet: &[u8]) -> Ran {
@@ -78,42 +78,42 @@ mod tests {
 
     #[test]
     fn every_change_of_a_forecast_is_a_difference() {
-        let foretold = foretold(head_of(&bench::small()));
-        assert_eq!((foretold.number, foretold.place), (0, 10));
-        assert_eq!(foretold.difference(&foretold.clone()), None);
-        let mut other = foretold.clone();
+        let forecast = by_reference(head_of(&bench::small()));
+        assert_eq!((forecast.number, forecast.place), (0, 10));
+        assert_eq!(forecast.difference(&forecast.clone()), None);
+        let mut other = forecast.clone();
         other.place = 11;
         let said = "place: reference 10, library 11";
-        assert_eq!(foretold.difference(&other).as_deref(), Some(said));
+        assert_eq!(forecast.difference(&other).as_deref(), Some(said));
         other.number = 24;
         let said = "number: reference 0, library 24";
-        assert_eq!(foretold.difference(&other).as_deref(), Some(said));
+        assert_eq!(forecast.difference(&other).as_deref(), Some(said));
     }
 
     #[test]
     fn another_number_or_place_of_the_run_is_a_difference() {
         let sheet = bench::small();
-        let foretold = foretold(head_of(&sheet));
+        let forecast = by_reference(head_of(&sheet));
         let mut ran = ran(&sheet);
-        assert_eq!(foretold.run_difference(&ran), None);
+        assert_eq!(forecast.run_difference(&ran), None);
         ran.number = 25;
         let said = "number and place forecast (0, 10), of the run (25, 10)";
-        assert_eq!(foretold.run_difference(&ran).as_deref(), Some(said));
+        assert_eq!(forecast.run_difference(&ran).as_deref(), Some(said));
         ran.number = 0;
         ran.counts[0] = 8;
-        assert!(foretold.run_difference(&ran).is_some());
+        assert!(forecast.run_difference(&ran).is_some());
     }
 
     /// The gate has a sheet for each number, with 4 for its length alone.
     #[test]
-    fn rows_and_the_length_alone_are_not_foretold() {
+    fn rows_and_the_length_alone_are_not_decided_by_the_head() {
         for (name, sheet) in gate::all() {
             let of_rows = ["end-4", "end-5", "end-6", "end-7", "end-8"].contains(&name.as_str());
-            assert_eq!(is_foretold(&sheet), !of_rows, "{name}");
+            assert_eq!(is_decided_by_head(&sheet), !of_rows, "{name}");
         }
         let mut sheet = bench::small();
         sheet[4] = 1;
         assert_eq!(ran(&sheet).number, 4);
-        assert!(is_foretold(&sheet));
+        assert!(is_decided_by_head(&sheet));
     }
 }
