@@ -40,8 +40,9 @@ pub in-second : (marks : List Bool) (b w : ℕ) (ys : List ℕ) {r k : ℕ} → 
     → r ≡ firstUnset marks (from b w ++ ys)
 unfolding firstUnset from
 in-second marks b zero ys h e l q = q
-in-second marks b (suc w) ys {r} {k} h e l q = go (getD marks b false) e
+in-second marks b (suc w) ys {r} {k} h e l q = go (getD marks b false) e (λ e. in-second marks (suc b) w ys (omega arith) e l q)
   where
-    go : (m : Bool) → k ≡ cond m (firstUnset marks (from (suc b) w)) b → r ≡ cond m (firstUnset marks (from (suc b) w ++ ys)) b
-    go true e = in-second marks (suc b) w ys (omega arith) e l q
-    go false e = absurd (omega (arith, h, l, e))
+    go : (m : Bool) → k ≡ cond m (firstUnset marks (from (suc b) w)) b → (k ≡ firstUnset marks (from (suc b) w) → r ≡ firstUnset marks (from (suc b) w ++ ys))
+        → r ≡ cond m (firstUnset marks (from (suc b) w ++ ys)) b
+    go true e next = next e
+    go false e next = absurd (omega (arith, h, l, e))
