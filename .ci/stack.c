@@ -1,5 +1,5 @@
-/* How deep the stack goes in a run of each sheet named, with everyone present and with party 1 absent, in turning it to its column form and back, in
- * each small entry, and in an import: a call is made on a stack that was filled with one byte, and the lowest byte that changed tells. Two fillings,
+/* How deep the stack goes in a run of each sheet named, with everyone present and with party 1 absent, in the forecast of its header and script, in
+ * turning it to its column form and back, in each small entry, and in an import: a call is made on a stack that was filled with one byte, and the lowest byte that changed tells. Two fillings,
  * so that a byte that happens to be the filling is seen. Exits with 1 if a call goes deeper than JUNDRETHOL_STACK, answers another number than it
  * must, or a sheet cannot be read. */
 #define _GNU_SOURCE
@@ -27,6 +27,13 @@ static void run(void)
     top = (uintptr_t)__builtin_frame_address(0);
     answer = jundrethol_run(sheet, sheet_length, present, record, JUNDRETHOL_RECORD_LENGTH, revealed, JUNDRETHOL_REVEALED_LENGTH, registers,
                             JUNDRETHOL_REGISTERS_LENGTH, marks, JUNDRETHOL_MARKS_LENGTH, counts, JUNDRETHOL_COUNTS_LENGTH);
+}
+
+static void forecast(void)
+{
+    static uint64_t place;
+    top = (uintptr_t)__builtin_frame_address(0);
+    answer = jundrethol_forecast(&place, sheet, 11 + sheet[9] + 256 * (size_t)sheet[10]);
 }
 
 static uint8_t columns[JUNDRETHOL_SHEET_LENGTH], back[JUNDRETHOL_SHEET_LENGTH];
@@ -134,6 +141,7 @@ int main(int count, char **names)
         good &= fits(names[i], run, ANY);
         present = (uint8_t)(present & ~1);
         good &= fits("  party 1 absent", run, ANY);
+        good &= fits("  forecast", forecast, ANY);
         good &= fits("  to columns", to_columns, JUNDRETHOL_DONE);
         good &= fits("  to sheet", to_sheet, JUNDRETHOL_DONE);
     }
