@@ -1,6 +1,5 @@
 // What the number of a forecast means, by the header: 1 to 4, and by the script where none of these refuses.
-ghost use Prim.Native.Nat.{_+_, _≤_};
-ghost use lib.ListN.{length};
+ghost use Prim.Native.Nat.{_≤_};
 ghost use Rattle.model.specs.Sheet.{headerOf};
 ghost use Rattle.sheet.specs.Framed.{Headed};
 use crate::amounts::plain;

@@ -2,10 +2,8 @@
 ghost use mathlib.Core.Path.{_≡_};
 ghost use Prim.Native.Nat.{_≤_};
 ghost use Rattle.model.specs.Script.{scriptOf};
-ghost use Rattle.model.specs.Checks as Checks;
 ghost use Rattle.model.specs.Forecast as Paper;
 ghost use Rattle.script.specs.Meaning.{scriptNumber};
-ghost use Rattle.costs.specs.Costing.{Supplied};
 ghost use Rattle.forecasting.specs.Forecasting.{foreseenOf, Foresees};
 use costs::check;
 use costs::cost;
