@@ -141,7 +141,7 @@ fn the_line_of_a_run_that_comes_to_end_has_its_counts() {
         if answer.number == 0 {
             let [inputs, masks, triples, _] = counts(&sheet);
             let expected = format!(
-                "end 0 at {}\nThe run comes to END. It takes {} of {inputs} input rows, {} of {masks} \
+                "end 0 at {}\nBy header and script the run comes to END. It takes {} of {inputs} input rows, {} of {masks} \
                  masks and {} of {triples} triples.\n",
                 answer.place, answer.inputs, answer.masks, answer.triples
             );
@@ -173,7 +173,7 @@ fn needed(head: &[u8]) -> Option<Vec<u16>> {
     if line.starts_with("The whole script needs ") {
         return Some(numbers_in(line));
     }
-    let numbers = numbers_in(line.strip_prefix("The run comes to END. It takes ")?);
+    let numbers = numbers_in(line.strip_prefix("By header and script the run comes to END. It takes ")?);
     Some(numbers.into_iter().step_by(2).collect())
 }
 

@@ -1,4 +1,4 @@
--- The paper, "The sheet" and "Figures to check": the largest sheet, and that what program table reads is enough for every sheet.
+-- The paper, "The sheet" and "Figures to check": the largest sheet, and that what programs table and forecast read is enough for every sheet.
 -- Assumes nothing.
 use mathlib.Core.Path.{_≡_}
 use mathlib.Core.Bool.{false}

@@ -11,7 +11,7 @@ use report::number::number;
 use report::number::put;
 use sheet::frame::Frame;
 
-// So many bytes are read at most, and the input may have more.
+// `BYTES_READ` of main.rt once more, which no contract ties to it: so many bytes are read at most, and the input may have more.
 const MOST_READ: usize = 59724;
 
 fn input_has(head: &[u8]) {

@@ -29,8 +29,8 @@ fn main() {
     tell_read(&input[..], got);
 }
 
-// The bytes that were read. An input that is longer than what is read is longer than the largest sheet too, so that its first bytes have the whole
-// input's answer: `forecast-cut` in crates/figures/specs/Largest.antt.
+// The bytes that were read. An input that is longer than what is read is longer than the largest sheet too. It is then no whole sheet (`most` in
+// crates/figures/specs/Largest.antt), so all of it is taken, and its first bytes have the whole input's answer: `forecast-cut` there.
 fn tell_read(input: &[u8], got: usize)
     requires { ⌜ (largestSheet < length (now input)) × (got ≤ length (now input)) ⌝ }
 {

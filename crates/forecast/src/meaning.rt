@@ -27,7 +27,7 @@ pub fn explain(f: Frame, script: &[u8], found: Foreseen)
 }
 
 fn comes_to_end(f: Frame, spent: Counts) {
-    put(b"The run comes to END. It takes ");
+    put(b"By header and script the run comes to END. It takes ");
     amounts::part_of_all(spent, needs::there(f));
     put(b".");
     line_end();

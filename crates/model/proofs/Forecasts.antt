@@ -222,6 +222,10 @@ module _ (s : List ℕ) (e : firstFailed (headTests s) ≡ 0) where
   filled-number : sheetNumber (everyone (headerOf s .n)) (filled s) ≡ 0
   filled-number = rw filled-header at filled-passes
 
+foreseen-ends : (s : List ℕ) → forecast s ≡ record { number = foreseen s .number; place = foreseen s .place }
+unfolding forecast
+foreseen-ends s = refl
+
 -- what is refused
 head-refused : (s : List ℕ) {n : ℕ} → n ≢ 0 → n ≡ firstFailed (headTests s) → forecast s ≡ record { number = n; place = 0 }
 unfolding forecast foreseen
@@ -318,6 +322,7 @@ forecasts =
       as-run = as-run;
       as-run-with = λ present s log revealed Q R l k. as-run-with s log revealed R l k present Q;
       spent-as-run = spent-as-run;
+      foreseen-ends = foreseen-ends;
       header-first = header-first;
       limits-next = limits-next;
       other-length = other-length;

@@ -53,6 +53,8 @@ pub record Forecasts : Type 0 where
   pub spent-as-run : (s log revealed : List ℕ) → RightSheet s → recordLength ≤ length log → revealedLength ≤ length revealed
       → let x = run (everyone (headerOf s .n)) s log revealed in
       foreseen (headIn s) .spent ≡ record { counts = x .counts; marks = x .marks }
+  -- and its number and place, by which program forecast goes, are those of the forecast
+  pub foreseen-ends : (s : List ℕ) → forecast s ≡ record { number = foreseen s .number; place = foreseen s .place }
   -- "1 to 4", each with place 0: first 1, 2 and 3
   pub header-first : (s : List ℕ) → firstFailed (headerTests s) ≢ 0 → forecast s ≡ record { number = firstFailed (headerTests s); place = 0 }
   -- "for length 4 asks only that the counts keep their limits"

@@ -53,7 +53,7 @@ mod tests {
 
     const PRINTED: [&str; 4] = [
         "end 0 at 37\n\
-         The run comes to END. It takes 3 of 3 input rows, 3 of 3 masks and 78 of 78 triples.\n",
+         By header and script the run comes to END. It takes 3 of 3 input rows, 3 of 3 masks and 78 of 78 triples.\n",
         "end 23 at 16\n\
          BLOCKS at 16 needs 1 mask and 26 triples: 0 of 2 masks and 26 of 78 triples are left.\n\
          The whole script needs 3 input rows, 3 masks and 78 triples.\n",

@@ -120,11 +120,11 @@ mod tests {
             ("out-of-range-const", "CONST at 2 has an operand out of range."),
             (
                 "end-alone",
-                "The run comes to END. It takes 0 of 0 input rows, 0 of 0 masks and 0 of 0 triples.",
+                "By header and script the run comes to END. It takes 0 of 0 input rows, 0 of 0 masks and 0 of 0 triples.",
             ),
             (
                 "end-with-all-taken",
-                "The run comes to END. It takes 1 of 1 input rows, 1 of 1 masks and 5 of 5 triples.",
+                "By header and script the run comes to END. It takes 1 of 1 input rows, 1 of 1 masks and 5 of 5 triples.",
             ),
             (
                 "unset-add",

@@ -124,7 +124,7 @@ fn of_stop(header: &Header, lines: &[Line]) -> String {
     if stop.number == refusal::NONE {
         let spent = std::array::from_fn(|kind| given[kind] - stop.left[kind]);
         let spent = listed(part_of(spent, given));
-        return format!("The run comes to END. It takes {spent}.\n");
+        return format!("By header and script the run comes to END. It takes {spent}.\n");
     }
     let name = NAMES[usize::from(command.to_bytes()[0])];
     if let Some(register) = stop.unset() {
@@ -172,12 +172,12 @@ mod tests {
     fn a_run_that_comes_to_end_is_told_with_what_it_takes() {
         let sheet = bench::small();
         let expected = "end 0 at 10\n\
-            The run comes to END. It takes 2 of 2 input rows, 0 of 0 masks and 1 of 1 triples.\n";
+            By header and script the run comes to END. It takes 2 of 2 input rows, 0 of 0 masks and 1 of 1 triples.\n";
         assert_eq!(lines(&sheet[..22]), expected);
         assert_eq!(lines(&sheet), expected);
         let more = Draft::new(0, &sheet[11..22]).with_counts([64, 16, 512]);
         let expected = "end 0 at 10\n\
-            The run comes to END. It takes 2 of 64 input rows, 0 of 16 masks and 1 of 512 triples.\n";
+            By header and script the run comes to END. It takes 2 of 64 input rows, 0 of 16 masks and 1 of 512 triples.\n";
         assert_eq!(printed(more), expected);
     }
 
