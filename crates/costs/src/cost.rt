@@ -90,6 +90,19 @@ fn comparing(d: usize, b: usize, w: usize) -> Cost
     }
 }
 
+// LTZS, which reads h registers from a on, and writes h from d on.
+fn on_stretches(d: usize, a: usize, h: usize, counts: Counts) -> Cost
+    requires { ⌜ (d + h ≤ 64) × (a + h ≤ 64) ⌝ }
+    ensures { λ r. ⌜ Costs r (record { reads = from a h; writes = from d h; counts = countsOf counts }) ⌝ }
+{
+    Cost {
+        first: Span { from: a, size: h },
+        second: Span { from: 0, size: 0 },
+        target: Span { from: d, size: h },
+        counts,
+    }
+}
+
 // What a command with operands in range costs.
 pub fn cost_of(f: Frame, c: Command) -> Cost
     requires { ⌜ (f .l ≤ 31) × (f .largest ≤ 30) × T (Paper.inRanges (f .p) (f .largest) (meant c)) ⌝ }
@@ -109,5 +122,6 @@ pub fn cost_of(f: Frame, c: Command) -> Cost
         Command::Blocks { d, a, m, .. } => on_one(d, a, counts::of_mask(f.l, m)),
         Command::Reveal { a } => revealing(a),
         Command::Bitlt { d, b, w, .. } => comparing(d, b, w),
+        Command::Ltzs { d, a, h, k } => on_stretches(d, a, h, counts::of_masks(f.l, h, k - 1)),
     }
 }

@@ -62,6 +62,15 @@ pub fn of_mask(l: usize, m: u32) -> Counts
     made(0, 1, triples, 1 + 2 * triples, 0)
 }
 
+// LTZS: h masks, with the triples of MOD of m for each.
+pub fn of_masks(l: usize, h: usize, m: u32) -> Counts
+    requires { ⌜ (l ≤ 31) × (h ≤ 16) × (1 ≤ m) × (m ≤ 30) ⌝ }
+    ensures { λ r. ⌜ countsOf r ≡ Costs.ofMasks h (Costs.modTriples l m) ⌝ }
+{
+    let one = of_mask(l, m);
+    made(0, h, h * one.triples, h * one.openings, 0)
+}
+
 // What was spent before, and then.
 pub fn added(x: Counts, y: Counts) -> Counts
     requires { ⌜ Summing x y ⌝ }

@@ -6,7 +6,7 @@ use Prim.Native.Nat.{ℕ, zero, suc, _+_, _*_}
 use native.Mathlib.Omega.{arith}
 use lib.ListN.{length}
 use Rattle.model.specs.Steps.{Setting, Row, Deal}
-use Rattle.model.specs.Script.{Command, LOAD, CONST, ADD, SUB, SCALE, MUL, MOD, TRUNC, LTZ, OVER, BLOCKS, REVEAL, BITLT, Line, Script, accepted, refused}
+use Rattle.model.specs.Script.{Command, LOAD, CONST, ADD, SUB, SCALE, MUL, MOD, TRUNC, LTZ, OVER, BLOCKS, REVEAL, BITLT, LTZS, Line, Script, accepted, refused}
 use Rattle.model.specs.Refusing.{given}
 use Rattle.model.specs.Counts.{Counts}
 use Rattle.model.specs.Costs.{costBy, cost}
@@ -33,6 +33,7 @@ openings-are S (OVER d a k v) = omega arith
 openings-are S (BLOCKS d a k m) = omega arith
 openings-are S (REVEAL a) = refl
 openings-are S (BITLT d b w v) = omega arith
+openings-are S (LTZS d a h k) = omega arith
 
 pub balanced-start : (d : Deal) → Balanced (start d .spent .counts)
 unfolding start nothingSpent

@@ -5,14 +5,15 @@ use mathlib.Core.Bool.{true}
 use mathlib.Core.List.{List, [], _∷_}
 use Prim.Native.Nat.{ℕ, zero, suc, _+_, _*_, _≤_}
 use native.Mathlib.Omega.{arith}
-use lib.Dec.{T, leb, leb→le}
+use lib.Dec.{T, leb, leb→le, le→leb}
+use Rattle.algebra.specs.Lists.{none, one}
 use Rattle.algebra.proofs.Tests.{and-left}
 use Rattle.model.specs.Refusing.{given}
 use Rattle.model.specs.Script.{Line}
 use Rattle.model.specs.Counts.{Counts, added}
 use Rattle.model.specs.Costs.{Cost, costBy}
 use Rattle.model.specs.Checks.{Spent, Supply, allSet, check, pay}
-use Rattle.model.proofs.Trying.{numbered, holding, all-hold}
+use Rattle.model.proofs.Trying.{numbered, holding, all-hold, all-pass}
 
 -- what the checks let through
 pub record Passed (u : Supply) (c : Cost) (s : Spent) : Type 0 where
@@ -34,6 +35,13 @@ check-passed u c s e =
       room = leb→le _ _ (and-left (leb ((s .counts .openings + c .counts .openings) * u .parties) (u .log)) true (all-hold 25 _ tt e));
       shown = leb→le _ _ (and-left (leb (s .counts .revealed + c .counts .revealed) (u .shown)) true (all-hold 26 _ tt e));
     }
+
+pub passed-check : (u : Supply) (c : Cost) (s : Spent) → Passed u c s → check u c s ≡ 0
+unfolding check
+passed-check u c s P =
+    all-pass
+    (one (P .reads)
+    (one (le→leb _ _ (P .inputs)) (one (le→leb _ _ (P .masks)) (one (le→leb _ _ (P .triples)) (one (le→leb _ _ (P .room)) (one (le→leb _ _ (P .shown)) none))))))
 
 -- what the commands that finish spend of one kind, where MOD takes so many triples
 module _ (triples : ℕ → ℕ) (u : Supply) (f : Counts → ℕ) where

@@ -2,25 +2,25 @@
 -- and reveal does not depend on the deal.
 -- Assumes nothing.
 use mathlib.Core.Path.{_≡_, refl, ap, ap₂, _∙_}
-use mathlib.Core.List.{List, [], _∷_, _++_, List·Memᴰ as In, List·Memᴰ·head as here}
-use Prim.Native.Nat.{ℕ, zero, suc, _+_, _-_, _^_, _<_}
+use mathlib.Core.List.{List, [], _∷_, _++_, map, List·Memᴰ as In, List·Memᴰ·head as here, List·Memᴰ·tail as there}
+use Prim.Native.Nat.{ℕ, zero, suc, _+_, _-_, _*_, _^_, _<_}
 use native.Mathlib.Omega.{arith}
 use lib.Dec.{T}
-use lib.ListN.{length, getD, set, length-set, length-append}
+use lib.ListN.{length, getD, set, length-set, length-append, length-map}
 use lib.Seq.{getD-set-other}
 use Rattle.algebra.specs.Ring.{add, sub}
-use Rattle.algebra.specs.Lists.{All, none, one}
+use Rattle.algebra.specs.Lists.{All, none, one, from}
 use Rattle.model.specs.Fields.{Modulus, Parties}
 use Rattle.model.specs.Deal.{noRow}
 use Rattle.model.specs.Trees.{Tree, done, Remainder, RemainderBy, comparison, floor, sign, over, blocks}
 use Rattle.model.specs.Steps.{Setting, Row, rowOps}
-use Rattle.model.specs.Script.{Command, LOAD, CONST, ADD, SUB, SCALE, MUL, MOD, TRUNC, LTZ, OVER, BLOCKS, REVEAL, BITLT, Line, inRanges, outputs}
+use Rattle.model.specs.Script.{Command, LOAD, CONST, ADD, SUB, SCALE, MUL, MOD, TRUNC, LTZ, OVER, BLOCKS, REVEAL, BITLT, LTZS, Line, inRanges, outputs}
 use Rattle.model.specs.Costs.{costBy}
 use Rattle.model.specs.Checks.{Spent, Supply, check, pay}
 use Rattle.model.specs.Refusing.{given}
-use Rattle.model.specs.Commands.{Ended, throughLines, registersFrom, command, lines}
+use Rattle.model.specs.Commands.{Ended, throughLines, registersFrom, signs, command, lines}
 use Rattle.model.specs.Sheet.{secrets}
-use Rattle.model.specs.Plain.{quot, negative, exceeds, charged, valuesFrom, plainly, reveals}
+use Rattle.model.specs.Plain.{quot, negative, exceeds, charged, negatives, valuesFrom, plainly, reveals}
 use Rattle.model.specs.Results.{target}
 use Rattle.model.proofs.Each.{no-more, and, each-at, each-set}
 use Rattle.model.proofs.Operands.{Ranges, operands}
@@ -52,10 +52,14 @@ pub record OthersStay (ds : List ℕ) (g w : List Row) : Type 0 where
 kept : (ds : List ℕ) (g : List Row) → OthersStay ds g g
 kept ds g = record { many = refl; others = λ r n. refl }
 
+-- one of them was written before the others
+stay-more : (d : ℕ) (x : Row) {ds : List ℕ} {g w : List Row} → OthersStay ds (set g d x) w → OthersStay (d ∷ ds) g w
+stay-more d x {g = g} W =
+    record { many = W .many ∙ length-set g d x; others = λ r n. W .others r (λ i. n (there i)) ∙ getD-set-other g d r x noRow (λ e. n (here e)) }
+
 put : {S : Setting} {vs : List ℕ} {g : List Row} {v : ℕ} {x : Row} (d : ℕ) → Shareds S vs g → Shared S v x
     → Shareds S (set vs d v) (set g d x) × OthersStay (d ∷ []) g (set g d x)
-put {g = g} {x = x} d G X =
-    (each-set d G X, record { many = length-set g d x; others = λ r n. getD-set-other g d r x noRow (λ e. n (here e)) })
+put {x = x} d G X = (each-set d G X, stay-more d x (kept [] _))
 
 -- the number that is masked: "X = (a + 2^(k−1)) modulo p"
 abbrev shifted : ℕ → ℕ → ℕ → ℕ
@@ -103,6 +107,19 @@ module _ (S : Setting) (M : Modulus (S .p)) (P : Parties (S .n) (S .t)) (Z : Sha
     unfolding over exceeds
     determined-over k v R l X h = determined-sign D k R (shared-minus S M P (shared-constant S M P l) X) h
 
+  -- LTZS of the registers us from a on; vs and g are what stands in the registers before its next LTZ
+  module _ {A : Type 0} {Q : A → Type 0} (remainder : RemainderBy Row A) (D : DeterminedMod S B K Q triples (remainder (comparison (rowOps S)))) (k : ℕ) (R : Ranges K k (k - 1))
+      {us : List ℕ} {f : List Row} (F : Shareds S us f) {xs : List ℕ} {n : ℕ} {ss : List ℕ} {go : List Row → Tree Row A} where
+    determined-signs : (d a h : ℕ) {vs : List ℕ} {g : List Row} → Shareds S vs g
+        → ((w : List Row) → Shareds S (negatives (S .p) k (valuesFrom us a h) d vs) w × OthersStay (from d h) g w → Determined S B Q xs n ss (go w))
+        → Determined S B Q (map (shifted (S .p) k) (valuesFrom us a h) ++ xs) (h * triples (k - 1) + n) ss
+        (signs (S .p) (rowOps S) noRow remainder k (registersFrom noRow f a h) d g go)
+    unfolding signs registersFrom valuesFrom negatives from
+    determined-signs d a zero G t = recount (omega arith) (t _ (G, kept [] _))
+    determined-signs d a (suc h) G t =
+        recount {n = triples (k - 1) + (h * triples (k - 1) + n)} (omega arith)
+        (determined-sign D k R (shareds-at Z F a) (λ z X. determined-signs (suc d) (suc a) h (each-set d G X) (λ w W. t w (W .0, stay-more d z (W .1)))))
+
   module _ {input : List Row} (I : Shareds S (secrets S input) input) where
     module _ {A : Type 0} {Q : A → Type 0} (remainder : RemainderBy Row A) (D : DeterminedMod S B K Q triples (remainder (comparison (rowOps S)))) (j : ℕ) (vs : List ℕ) where
       pub course : (c : Command) → T (inRanges (S .p) K c) → Course S B triples input j c vs Q remainder
@@ -148,6 +165,14 @@ module _ (S : Setting) (M : Modulus (S .p)) (P : Parties (S .n) (S .t)) (Z : Sha
             values = refl;
             determined = λ {xs} {n} g G go h. recount {n = (length (valuesFrom vs b w) - 1) + n} (omega (arith, length-values vs b w))
                 (determined-comparison S M P v (shareds-from Z G b w) (λ z X. h _ (put d G X)));
+          }
+      course (LTZS d a h k) ok =
+          let R = operands (S .p) K (LTZS d a h k) ok in
+          record {
+            numbers = map (shifted (S .p) k) (valuesFrom vs a h);
+            masks = length-map (valuesFrom vs a h) (shifted (S .p) k) ∙ length-values vs a h;
+            values = refl;
+            determined = λ g G go t. determined-signs remainder D k (omega arith) G d a h G t;
           }
 
 -- A tree for each list of registers, where these share the values vs: it takes so many masks and triples, and masks and reveals the same values,

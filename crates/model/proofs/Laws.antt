@@ -6,6 +6,7 @@ use Rattle.model.proofs.Coding.{every-coding}
 use Rattle.model.proofs.Presence.{presence}
 use Rattle.model.proofs.WholeScript.{whole-script}
 use Rattle.model.proofs.StepLaws.{every-column, every-step, every-command, run-by-commands}
+use Rattle.model.proofs.Stretches.{stretches}
 use Rattle.model.proofs.Dividing.{one-division, one-begun}
 use Rattle.model.proofs.Formulas.{every-formula}
 use Rattle.model.proofs.Shamir.{every-sharing}
@@ -39,6 +40,7 @@ laws =
       every-step = every-step;
       every-command = every-command;
       run-by-commands = run-by-commands;
+      stretches = stretches;
       one-division = one-division;
       one-begun = one-begun;
       every-formula = every-formula;

@@ -28,6 +28,7 @@ pub mod Operands
 pub mod Masked
 pub mod Counts
 pub mod Checks
+pub mod Stretches
 pub mod ReadsOnly
 pub mod Courses
 pub mod Marks

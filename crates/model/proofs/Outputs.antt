@@ -3,9 +3,11 @@
 use mathlib.Core.Path.{_≡_, refl}
 use mathlib.Core.List.{[], _∷_, List·Memᴰ as In, List·Memᴰ·head as here}
 use Prim.Native.Nat.{ℕ, _<_}
+use native.Mathlib.Omega.{arith}
 use lib.Dec.{T}
+use Rattle.algebra.proofs.Lists.{in-from}
 use Rattle.model.specs.Deal.{Setting}
-use Rattle.model.specs.Script.{Command, LOAD, CONST, ADD, SUB, SCALE, MUL, MOD, TRUNC, LTZ, OVER, BLOCKS, REVEAL, BITLT, ranges, inRanges, outputs}
+use Rattle.model.specs.Script.{Command, LOAD, CONST, ADD, SUB, SCALE, MUL, MOD, TRUNC, LTZ, OVER, BLOCKS, REVEAL, BITLT, LTZS, ranges, inRanges, outputs}
 use Rattle.model.specs.Costs.{Cost, costBy, cost}
 use Rattle.model.specs.Results.{target}
 use Rattle.model.proofs.Operands.{AllSay, operands}
@@ -44,3 +46,9 @@ agrees S (OVER d a k v) = leaving (OVER d a k v) (λ p K h. h .0) refl refl refl
 agrees S (BLOCKS d a k m) = leaving (BLOCKS d a k m) (λ p K h. h .0) refl refl refl
 agrees S (REVEAL a) = record { writes = refl; low = λ p K ok r. elim [ ]; shown = shows a refl refl }
 agrees S (BITLT d b w v) = leaving (BITLT d b w v) (λ p K h. h .0) refl refl refl
+agrees S (LTZS d a h k) =
+    record {
+      writes = refl;
+      low = λ p K ok r i. let R = operands p K (LTZS d a h k) ok in omega (arith, R .1 .1 .0, in-from d h i);
+      shown = hides refl;
+    }

@@ -8,12 +8,12 @@ use Prim.Native.Nat.{ℕ, zero, suc, _-_, _/_}
 use lib.ListN.{getD, set}
 use Rattle.algebra.specs.Ring.{mul}
 use Rattle.algebra.specs.Lists.{from}
-use Rattle.model.specs.Script.{Command, LOAD, CONST, ADD, SUB, SCALE, MUL, MOD, TRUNC, LTZ, OVER, BLOCKS, REVEAL, BITLT, Line, outputs}
+use Rattle.model.specs.Script.{Command, LOAD, CONST, ADD, SUB, SCALE, MUL, MOD, TRUNC, LTZ, OVER, BLOCKS, REVEAL, BITLT, LTZS, Line, outputs}
 use Rattle.model.specs.Trees.{Ops, Tree, done, multiply, mask, reveal, Comparison, Remainder, RemainderBy, odd, beaver, chosen, spelled, unmasked, comparisonFrom, comparison, remainder, floor, sign, over, blocks}
 use Rattle.model.specs.Costs.{costBy}
 use Rattle.model.specs.Checks.{Spent, Supply, check, pay}
 use Rattle.model.specs.Refusing.{given}
-use Rattle.model.specs.Commands.{Ended, throughLines, registersFrom, command, lines}
+use Rattle.model.specs.Commands.{Ended, throughLines, registersFrom, signs, command, lines}
 use Rattle.model.specs.Results.{target}
 use Rattle.model.proofs.Each.{Each, no-more, and, each-take, each-at, each-set}
 
@@ -48,10 +48,10 @@ pub record PairedMod {X Y A B : Type 0} (E : X → Y → Type 0) (R : Tree X A �
   pub pair : (k m : ℕ) {a : X} {a′ : Y} {go : X → Tree X A} {go′ : Y → Tree Y B} → E a a′ → PairedAfter E R E go go′
       → Paired E R (f k m a go) (f′ k m a′ go′)
 
--- the registers w and w′, where g and g′ were: a pair is put into the register of the list, if it has one
-pub data Wrote {X Y : Type 0} (E : X → Y → Type 0) (g : List X) (g′ : List Y) : List ℕ → List X → List Y → Type 0 where
-  kept : Wrote E g g′ [] g g′
-  put : {d : ℕ} {z : X} {z′ : Y} → E z z′ → Wrote E g g′ (d ∷ []) (set g d z) (set g′ d z′)
+-- the registers w and w′, where g and g′ were: a pair is put into each register of the list, one after the other
+pub data Wrote {X Y : Type 0} (E : X → Y → Type 0) : List X → List Y → List ℕ → List X → List Y → Type 0 where
+  kept : {g : List X} {g′ : List Y} → Wrote E g g′ [] g g′
+  puts : {g w : List X} {g′ w′ : List Y} {d : ℕ} {ds : List ℕ} {z : X} {z′ : Y} → E z z′ → Wrote E (set g d z) (set g′ d z′) ds w w′ → Wrote E g g′ (d ∷ ds) w w′
 
 -- two ends of a run
 pub record PairedEnds {X Y : Type 0} (E : X → Y → Type 0) (e : Ended X) (e′ : Ended Y) : Type 0 where
@@ -142,10 +142,24 @@ module _ (p : ℕ) {X Y : Type 0} {E : X → Y → Type 0} {O : Ops X} {O′ : O
     abbrev Reads : List ℕ → List X → List Y → Type 0
     Reads rs g g′ = (r : ℕ) → In r rs → E (getD g r unset) (getD g′ r unset′)
 
+    -- a pair put into one register
+    put : {g : List X} {g′ : List Y} {d : ℕ} {z : X} {z′ : Y} → E z z′ → Wrote E g g′ (d ∷ []) (set g d z) (set g′ d z′)
+    put e = puts e kept
+
     from-registers : (g : List X) (g′ : List Y) (b w : ℕ) → Reads (from b w) g g′ → Each E (registersFrom unset g b w) (registersFrom unset′ g′ b w)
     unfolding registersFrom from
     from-registers g g′ b zero h = no-more
     from-registers g g′ b (suc w) h = and (h b (here refl)) (from-registers g g′ (suc b) w (λ r i. h r (there i)))
+
+    -- LTZS, whose operands stand in registers from a on
+    paired-signs : {A B : Type 0} {R : Tree X A → Tree Y B → Type 0} (f : RemainderBy X A) (f′ : RemainderBy Y B)
+        → PairedMod E R (f (comparison O)) (f′ (comparison O′)) → (g : List X) (g′ : List Y) (k d a h : ℕ) {w : List X} {w′ : List Y} {go : List X → Tree X A} {go′ : List Y → Tree Y B}
+        → Reads (from a h) g g′ → PairedAfter E R (Wrote E w w′ (from d h)) go go′
+        → Paired E R (signs p O unset f k (registersFrom unset g a h) d w go) (signs p O′ unset′ f′ k (registersFrom unset′ g′ a h) d w′ go′)
+    unfolding signs registersFrom from
+    paired-signs f f′ H g g′ k d a zero gs t = t _ _ kept
+    paired-signs f f′ H g g′ k d a (suc h) gs t =
+        paired-sign H k (gs a (here refl)) λ z z′ e. paired-signs f f′ H g g′ k (suc d) (suc a) h (λ r i. gs r (there i)) λ w w′ W. t w w′ (puts e W)
 
     -- A command, where what it reads is in pairs: its cost says which registers these are, and it writes none but its target.
     pub paired-command : {A B : Type 0} {R : Tree X A → Tree Y B → Type 0} (f : RemainderBy X A) (f′ : RemainderBy Y B)
@@ -166,11 +180,12 @@ module _ (p : ℕ) {X Y : Type 0} {E : X → Y → Type 0} {O : Ops X} {O′ : O
     paired-command f f′ H is triples j (BLOCKS d a k m) gs h = paired-blocks H .pair k m (gs a (here refl)) λ z z′ e. h _ _ (put e)
     paired-command f f′ H is triples j (REVEAL a) gs h = p-reveal (gs a (here refl)) (h _ _ kept)
     paired-command f f′ H is triples j (BITLT d b w v) gs h = paired-comparison .pair v (from-registers _ _ b w gs) λ z z′ e. h _ _ (put e)
+    paired-command f f′ H is triples j (LTZS d a n k) gs h = paired-signs f f′ H _ _ k d a n gs h
 
     -- lines, from registers that are all in pairs
     each-wrote : {ds : List ℕ} {g w : List X} {g′ w′ : List Y} → Each E g g′ → Wrote E g g′ ds w w′ → Each E w w′
     each-wrote gs kept = gs
-    each-wrote gs (put {d} e) = each-set d gs e
+    each-wrote gs (puts {d = d} e W) = each-wrote (each-set d gs e) W
 
     pub paired-lines : (f : RemainderBy X (Ended X)) (f′ : RemainderBy Y (Ended Y)) → PairedMod E (Ends (PairedEnds E)) (f (comparison O)) (f′ (comparison O′)) → (triples : ℕ → ℕ) (u : Supply)
         {input : List X} {input′ : List Y} → Each E input input′ → (end : ℕ) (xs : List Line) (s : Spent) {g : List X} {g′ : List Y} → Each E g g′

@@ -3,21 +3,21 @@
 use mathlib.Core.Path.{_≡_, refl, sym, ap, ap₂, _∙_}
 use mathlib.Core.Bool.{false}
 use mathlib.Core.List.{List, [], _∷_, map, List·Memᴰ·head as here}
-use Prim.Native.Nat.{ℕ, zero, suc, _%_, _<_}
+use Prim.Native.Nat.{ℕ, zero, suc, _+_, _%_, _≤_, _<_}
 use native.Mathlib.Omega.{arith}
 use lib.Dec.{T}
-use lib.ListN.{getD, set}
-use lib.Seq.{getD-set-same}
+use lib.ListN.{length, getD, set, length-set}
+use lib.Seq.{getD-set-same, getD-set-other}
 use Rattle.algebra.specs.Ring.{add, mul}
 use Rattle.algebra.specs.Lists.{from}
 use Rattle.algebra.proofs.Ring.{ring, mod-ring, reduced}
 use Rattle.model.specs.Steps.{Setting, Row, Deal, constant, byRows}
-use Rattle.model.specs.Script.{Command, LOAD, CONST, ADD, SUB, SCALE, MUL, MOD, TRUNC, LTZ, OVER, BLOCKS, REVEAL, BITLT, inRanges, outputs}
+use Rattle.model.specs.Script.{Command, LOAD, CONST, ADD, SUB, SCALE, MUL, MOD, TRUNC, LTZ, OVER, BLOCKS, REVEAL, BITLT, LTZS, inRanges, outputs}
 use Rattle.model.specs.Costs.{costBy, cost}
 use Rattle.model.specs.Commands.{command}
 use Rattle.model.specs.Sheet.{secrets}
 use Rattle.model.specs.Run.{State, Supply, noRow, marked, pay, perform, finish}
-use Rattle.model.specs.Plain.{plainly, valuesFrom}
+use Rattle.model.specs.Plain.{plainly, negative, negatives, valuesFrom}
 use Rattle.model.specs.Formulas.{Remains, Divides, Signs, Exceeds, Charges, Exact}
 use Rattle.model.specs.Results.{secretIn, Leaves, target, Does}
 use Rattle.model.proofs.Each.{each-length}
@@ -39,6 +39,27 @@ marks-are : (S : Setting) (input : List Row) (c : Command) (s : State) (r : ℕ)
     → getD (finish S input c s .spent .marks) r false ≡ getD (marked (s .spent .marks) (target c)) r false
 unfolding finish pay
 marks-are S input c s r = ap (λ (ds : List ℕ). getD (marked (s .spent .marks) ds) r false) (agrees S c .writes)
+
+-- LTZS on values: what it leaves in its i-th register, where vs stood in the registers and us is read; registers before d are kept
+negatives-kept : (p k : ℕ) (xs : List ℕ) (d : ℕ) (vs : List ℕ) (r : ℕ) → r < d → getD (negatives p k xs d vs) r 0 ≡ getD vs r 0
+unfolding negatives
+negatives-kept p k [] d vs r h = refl
+negatives-kept p k (a ∷ xs) d vs r h =
+    negatives-kept p k xs (suc d) (set vs d (negative p k a)) r (omega arith) ∙ getD-set-other vs d r _ 0 (λ e. omega arith)
+
+negatives-at : (p k : ℕ) (us : List ℕ) (d a h i : ℕ) (vs : List ℕ) → i < h → d + h ≤ length vs
+    → getD (negatives p k (valuesFrom us a h) d vs) (d + i) 0 ≡ negative p k (getD us (a + i) 0)
+unfolding negatives valuesFrom
+negatives-at p k us d a zero i vs l m = absurd (omega arith)
+negatives-at p k us d a (suc h) zero vs l m =
+    let e : d + 0 ≡ d = omega arith in
+    let f : a + 0 ≡ a = omega arith in
+    rw (e, f)
+    (negatives-kept p k (valuesFrom us (suc a) h) (suc d) (set vs d (negative p k (getD us a 0))) d (omega arith) ∙ getD-set-same vs d _ 0 (omega arith))
+negatives-at p k us d a (suc h) (suc i) vs l m =
+    let e : d + suc i ≡ suc d + i = omega arith in
+    let f : a + suc i ≡ suc a + i = omega arith in
+    rw (e, f) (negatives-at p k us (suc d) (suc a) h i _ (omega arith) (rw length-set (omega arith)))
 
 module _ {S : Setting} {K : ℕ} {u : Supply} {input : List Row} {d₀ : Deal} (G : Given S K u input d₀) (s : State) (vs : List ℕ) (H : Holds S d₀ s vs) where
   -- the row and the secret of the register that was written
@@ -107,6 +128,11 @@ module _ {S : Setting} {K : ℕ} {u : Supply} {input : List Row} {d₀ : Deal} (
       let R = operands (S .p) K (BITLT d b w v) ok in
       rw (values-read b w, left (BITLT d b w v) ok Q refl refl)
       (E .compares v (valuesFrom vs b w) (rw (length-values vs) (omega arith)) (rw (length-values vs) (omega arith)))
+  leaves (LTZS d a h k) ok Q = λ i l.
+      let R = operands (S .p) K (LTZS d a h k) ok in
+      let z = shareds-at (none-shared G) (finished G s vs H (LTZS d a h k) ok Q .holds .shareds) (d + i) .is in
+      equals (Signs (S .p) k) (read-is (a + i)) (z ∙ negatives-at (S .p) k vs d a h i vs l (omega (arith, H .values-64)))
+      (E .signs k _ (omega arith) (omega arith) (below (a + i)))
 
   -- what a command does to its target and to the other registers
   pub does : (c : Command) → T (inRanges (S .p) K c) → Passed u (cost S c) (s .spent) → Does S K input c s (finish S input c s)

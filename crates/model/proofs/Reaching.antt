@@ -13,7 +13,7 @@ use Rattle.model.specs.Costs.{modTriples, cost}
 use Rattle.model.specs.Run.{rowCommand, noRow}
 use Rattle.model.specs.Results.{target}
 use Rattle.model.proofs.Each.{Each, no-more, and}
-use Rattle.model.proofs.Pairs.{Paired, p-last, p-multiply, p-mask, p-reveal, Keep, Wrote, kept, put, PairedAfter, paired-comparison, paired-remainder, paired-command}
+use Rattle.model.proofs.Pairs.{Paired, p-last, p-multiply, p-mask, p-reveal, Keep, Wrote, kept, puts, PairedAfter, paired-comparison, paired-remainder, paired-command}
 
 each-same : {X : Type 0} (xs : List X) → Each _≡_ xs xs
 each-same [] = no-more
@@ -96,9 +96,9 @@ module _ (S : Setting) where
 data Goes {A : Type 0} (go : List Row → Tree Row A) : Tree Row A → Tree Row (List Row) → Type 0 where
   goes : {w : List Row} → Goes go (go w) (done w)
 
-wrote-same : {ds : List ℕ} {g w w′ : List Row} → Wrote _≡_ g g ds w w′ → w ≡ w′
-wrote-same kept = refl
-wrote-same {g = g} (put {d} e) = ap (set g d) e
+wrote-same : {ds : List ℕ} {g g′ w w′ : List Row} → Wrote _≡_ g g′ ds w w′ → g ≡ g′ → w ≡ w′
+wrote-same kept q = q
+wrote-same (puts {d = d} e W) q = wrote-same W (ap₂ (λ (x : List Row) (y : Row). set x d y) q e)
 
 module _ (S : Setting) {A : Type 0} where
   -- w is done, and then a tree
@@ -113,5 +113,5 @@ module _ (S : Setting) {A : Type 0} where
   pub command-does : (input : List Row) (j : ℕ) (c : Command) (g : List Row) (go : List Row → Tree Row A) (d : Deal)
       → byRows S (rowCommand S input j c g go) d ≡ then (byRows S (rowCommand S input j c g done) d) go
   command-does input j c g go d =
-      let R = same-command S {R = Goes go} input j c g g go done (λ r _. refl) (λ w w′ W. p-last (rw (wrote-same W) goes)) d in
+      let R = same-command S {R = Goes go} input j c g g go done (λ r _. refl) (λ w w′ W. p-last (rw (wrote-same W refl) goes)) d in
       rw (R .other) (R .one ∙ gone (R .related) (R .opened) (R .shown) (R .deal))

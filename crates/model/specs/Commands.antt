@@ -4,7 +4,7 @@
 use mathlib.Core.List.{List, [], _∷_}
 use Prim.Native.Nat.{ℕ, zero, suc}
 use lib.ListN.{getD, set}
-use Rattle.model.specs.Script.{Command, LOAD, CONST, ADD, SUB, SCALE, MUL, MOD, TRUNC, LTZ, OVER, BLOCKS, REVEAL, BITLT, Line}
+use Rattle.model.specs.Script.{Command, LOAD, CONST, ADD, SUB, SCALE, MUL, MOD, TRUNC, LTZ, OVER, BLOCKS, REVEAL, BITLT, LTZS, Line}
 use Rattle.model.specs.Trees.{Ops, Tree, done, multiply, reveal, Remainder, RemainderBy, comparison, floor, sign, over, blocks}
 use Rattle.model.specs.Refusing.{given}
 use Rattle.model.specs.Costs.{costBy}
@@ -43,6 +43,12 @@ module _ (p : ℕ) {Operand : Type 0} (O : Ops Operand) (unset : Operand) where
     abbrev bitwise : Remainder Operand A
     bitwise = remainder (comparison O)
 
+    -- LTZS: "registers a to a + h − 1 into d to d + h − 1", "in rising order": LTZ of each of the operands, with the next mask and triples, into register d
+    -- and those after it
+    unfoldable pub signs : ℕ → List Operand → ℕ → List Operand → (List Operand → Tree Operand A) → Tree Operand A
+    signs k [] d g go = go g
+    signs k (x ∷ xs) d g go = sign p O bitwise k x λ z. signs k xs (suc d) (set g d z) go
+
     -- A command on the registers g, where j input rows were loaded before it, goes on with the registers that it leaves. "All operands are read before
     -- d is written, so d may be one of them."
     unfoldable pub command : List Operand → ℕ → Command → List Operand → (List Operand → Tree Operand A) → Tree Operand A
@@ -59,6 +65,7 @@ module _ (p : ℕ) {Operand : Type 0} (O : Ops Operand) (unset : Operand) where
     command input j (BLOCKS d a k m) g go = blocks p O bitwise k m (getD g a unset) λ z. go (set g d z)
     command input j (REVEAL a) g go = reveal (getD g a unset) (go g)
     command input j (BITLT d b w v) g go = comparison O v (registersFrom unset g b w) λ z. go (set g d z)
+    command input j (LTZS d a h k) g go = signs k (registersFrom unset g a h) d g go
 
   abbrev pub lines : RemainderBy Operand (Ended Operand) → (ℕ → ℕ) → Supply → List Operand → ℕ → List Line → Spent → List Operand
       → Tree Operand (Ended Operand)

@@ -5,7 +5,7 @@ use Prim.Native.Nat.{ℕ, _+_, _-_, _*_}
 use Rattle.algebra.specs.Lists.{from}
 use Rattle.model.specs.Deal.{Setting}
 use Rattle.model.specs.Counts.{Counts, noCounts}
-use Rattle.model.specs.Script.{Command, LOAD, CONST, ADD, SUB, SCALE, MUL, MOD, TRUNC, LTZ, OVER, BLOCKS, REVEAL, BITLT}
+use Rattle.model.specs.Script.{Command, LOAD, CONST, ADD, SUB, SCALE, MUL, MOD, TRUNC, LTZ, OVER, BLOCKS, REVEAL, BITLT, LTZS}
 
 -- The registers that a command reads and writes, and what it spends.
 pub record Cost : Type 0 where
@@ -26,6 +26,10 @@ ofTriples n = record { inputs = 0; masks = 0; triples = n; openings = 2 * n; rev
 
 abbrev pub ofMask : ℕ → Counts
 ofMask n = record { inputs = 0; masks = 1; triples = n; openings = 1 + 2 * n; revealed = 0 }
+
+-- h masks, with so many triples each
+abbrev pub ofMasks : ℕ → ℕ → Counts
+ofMasks h n = record { inputs = 0; masks = h; triples = h * n; openings = h * (1 + 2 * n); revealed = 0 }
 
 -- a command that spends nothing, one that spends triples, and one that spends a mask and triples
 abbrev pub free : List ℕ → List ℕ → Cost
@@ -57,6 +61,8 @@ costBy triples (BLOCKS d a k m) = masking d a (triples m)
 -- "LTZ and OVER the same with m = k − 1."
 costBy triples (LTZ d a k) = masking d a (triples (k - 1))
 costBy triples (OVER d a k v) = masking d a (triples (k - 1))
+-- Request 7: "cells, record and counts equal those of h LTZ commands"
+costBy triples (LTZS d a h k) = record { reads = from a h; writes = from d h; counts = ofMasks h (triples (k - 1)) }
 -- "REVEAL one opening, and its value goes to the revealed list."
 costBy triples (REVEAL a) = record { reads = a ∷ []; writes = []; counts = ofReveal }
 

@@ -5,6 +5,7 @@ use Rattle.model.specs.Coding.{EveryCoding}
 use Rattle.model.specs.Presence.{Presence}
 use Rattle.model.specs.Script.{WholeScript}
 use Rattle.model.specs.Parts.{EveryColumn, EveryStep, EveryCommand, RunByCommands}
+use Rattle.model.specs.Stretches.{Stretches}
 use Rattle.model.specs.Formulas.{OneDivision, OneBegun, EveryFormula}
 use Rattle.model.specs.Shamir.{EverySharing, EveryEntry, EveryCodeEntry}
 use Rattle.model.specs.SumFirst.{SumFirst}
@@ -31,6 +32,7 @@ pub record Laws : Type 0 where
   pub every-step : EveryStep
   pub every-command : EveryCommand
   pub run-by-commands : RunByCommands
+  pub stretches : Stretches
   pub one-division : OneDivision
   pub one-begun : OneBegun
   pub every-formula : EveryFormula

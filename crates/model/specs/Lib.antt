@@ -17,6 +17,7 @@ pub mod Commands
 pub mod Run
 pub mod Buffers
 pub mod Parts
+pub mod Stretches
 pub mod Plain
 pub mod Formulas
 pub mod Shamir

@@ -7,7 +7,7 @@ use lib.ListN.{getD, set}
 use Rattle.algebra.specs.Ring.{add, sub, mul}
 use Rattle.model.specs.Fields.{inversePowerOf2}
 use Rattle.model.specs.Trees.{odd}
-use Rattle.model.specs.Script.{Command, LOAD, CONST, ADD, SUB, SCALE, MUL, MOD, TRUNC, LTZ, OVER, BLOCKS, REVEAL, BITLT, outputs}
+use Rattle.model.specs.Script.{Command, LOAD, CONST, ADD, SUB, SCALE, MUL, MOD, TRUNC, LTZ, OVER, BLOCKS, REVEAL, BITLT, LTZS, outputs}
 
 -- BITLT on the values of registers. "If registers are not bits, this rule still says what comes out."
 -- "lt becomes bit i + lt − q where v's bit i is 0, else q"
@@ -45,6 +45,11 @@ exceeds p k v a = negative p k (sub p v a)
 unfoldable pub charged : ℕ → ℕ → ℕ → ℕ → ℕ
 charged p k m a = quot p k m (add p a (2 ^ m - 1))
 
+-- LTZS: the values that LTZ leaves of each of these, in register d and those after it
+unfoldable pub negatives : ℕ → ℕ → List ℕ → ℕ → List ℕ → List ℕ
+negatives p k [] d vs = vs
+negatives p k (a ∷ more) d vs = negatives p k more (suc d) (set vs d (negative p k a))
+
 -- the values of registers b to b + w - 1
 unfoldable pub valuesFrom : List ℕ → ℕ → ℕ → List ℕ
 valuesFrom vs b zero = []
@@ -66,6 +71,7 @@ plainly p input j (OVER d a k v) vs = set vs d (exceeds p k v (getD vs a 0))
 plainly p input j (BLOCKS d a k m) vs = set vs d (charged p k m (getD vs a 0))
 plainly p input j (REVEAL a) vs = vs
 plainly p input j (BITLT d b w v) vs = set vs d (less p v (valuesFrom vs b w))
+plainly p input j (LTZS d a h k) vs = negatives p k (valuesFrom vs a h) d vs
 
 -- "REVEAL one opening, and its value goes to the revealed list": the values that a command puts there
 unfoldable pub reveals : Command → List ℕ → List ℕ

@@ -12,7 +12,7 @@ use Rattle.algebra.specs.Lists.{from}
 use Rattle.algebra.specs.Rows.{row}
 use Rattle.model.specs.Sharing.{secret}
 use Rattle.model.specs.Deal.{Setting, Row, noRow}
-use Rattle.model.specs.Script.{Command, LOAD, CONST, ADD, SUB, SCALE, MUL, MOD, TRUNC, LTZ, OVER, BLOCKS, REVEAL, BITLT, inRanges, outputs}
+use Rattle.model.specs.Script.{Command, LOAD, CONST, ADD, SUB, SCALE, MUL, MOD, TRUNC, LTZ, OVER, BLOCKS, REVEAL, BITLT, LTZS, inRanges, outputs}
 use Rattle.model.specs.Run.{State, register}
 use Rattle.model.specs.Formulas.{Remains, Divides, Signs, Exceeds, Charges, Compares}
 
@@ -21,7 +21,8 @@ abbrev pub secretIn : Setting → State → ℕ → ℕ
 secretIn S s r = secret (S .p) (S .t) (register s r)
 
 -- What a command leaves, s being the state before it and s′ after it. "LOAD d: next input row", and there is one; "CONST d v: v, every share being
--- v"; ADD, SUB, SCALE and MUL modulo p. REVEAL opens its register, and the register's secret goes to the revealed list.
+-- v"; ADD, SUB, SCALE and MUL modulo p. REVEAL opens its register, and the register's secret goes to the revealed list. LTZS leaves in each of its h
+-- registers what LTZ leaves, of the secret that stood in register a + i before the command.
 abbrev pub Leaves : Setting → List Row → Command → State → State → Type 0
 Leaves S input (LOAD d) s s′ = (s .spent .counts .inputs < length input) × (register s′ d ≡ getD input (s .spent .counts .inputs) noRow)
 Leaves S input (CONST d v) s s′ = (register s′ d ≡ row (S .n) (λ _. v)) × (secretIn S s′ d ≡ v)
@@ -36,6 +37,7 @@ Leaves S input (OVER d a k v) s s′ = Exceeds (S .p) k v (secretIn S s a) (secr
 Leaves S input (BLOCKS d a k m) s s′ = Charges (S .p) k m (secretIn S s a) (secretIn S s′ d)
 Leaves S input (REVEAL a) s s′ = (s′ .opened ≡ s .opened ++ (register s a ∷ [])) × (s′ .shown ≡ s .shown ++ (secretIn S s a ∷ []))
 Leaves S input (BITLT d b w v) s s′ = Compares (S .p) v (map (secretIn S s) (from b w)) (secretIn S s′ d)
+Leaves S input (LTZS d a h k) s s′ = (i : ℕ) → i < h → Signs (S .p) k (secretIn S s (a + i)) (secretIn S s′ (d + i))
 
 -- the registers in which a command leaves something
 abbrev pub target : Command → List ℕ

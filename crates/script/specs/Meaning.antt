@@ -5,7 +5,7 @@ use Prim.Native.Nat.{ℕ}
 use lib.Dec.{eqb}
 use Rattle.model.specs.Script as Paper
 use Rattle.script.specs.declared.command.Command.{Command}
-use Rattle.script.specs.declared.command.Command.the-variants.{Load, Const, Add, Sub, Scale, Mul, Mod, Trunc, Ltz, Over, Blocks, Reveal, Bitlt}
+use Rattle.script.specs.declared.command.Command.the-variants.{Load, Const, Add, Sub, Scale, Mul, Mod, Trunc, Ltz, Over, Blocks, Reveal, Bitlt, Ltzs}
 use Rattle.script.specs.declared.command.Decoded.{Decoded}
 use Rattle.script.specs.declared.command.Decoded.the-variants.{Command as Found, Ends}
 
@@ -23,6 +23,7 @@ meant (Over d a k v) = Paper.OVER d a k v
 meant (Blocks d a k m) = Paper.BLOCKS d a k m
 meant (Reveal a) = Paper.REVEAL a
 meant (Bitlt d b w v) = Paper.BITLT d b w v
+meant (Ltzs d a h k) = Paper.LTZS d a h k
 
 -- what stands at a place, as a script goes on: a command and the place after it, or the script's number and place where it ends there
 pub data Standing : Type 0 where

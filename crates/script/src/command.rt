@@ -1,4 +1,4 @@
-// The thirteen commands with their operands: registers, k, m, w and v as the paper names them.
+// The fourteen commands with their operands: registers, k, m, w, h and v as paper and request 7 name them.
 pub enum Command {
     Load {
         d: usize,
@@ -64,6 +64,12 @@ pub enum Command {
         b: usize,
         w: usize,
         v: u32,
+    },
+    Ltzs {
+        d: usize,
+        a: usize,
+        h: usize,
+        k: u32,
     },
 }
 

@@ -1,4 +1,4 @@
-// What stands at a place of a script: END, a command, or 9 for "a command byte over 0D", 10 for "operands cut off" and for a script that has
+// What stands at a place of a script: END, a command, or 9 for "a command byte over 0D", which request 7 makes 0E, 10 for "operands cut off" and for a script that has
 // ended, 11 for "an operand out of range".
 ghost use mathlib.Core.Path.{_≡_};
 ghost use mathlib.Core.List.{List};
@@ -10,10 +10,10 @@ use crate::command::Decoded;
 use crate::operands;
 use crate::ranges;
 
-const LAST_BYTE: usize = 13;
+const LAST_BYTE: usize = 14;
 
 // What END and each command take, by their bytes.
-const SIZES: [usize; 14] = [1, 2, 6, 4, 4, 7, 4, 5, 5, 4, 8, 5, 2, 8];
+const SIZES: [usize; 15] = [1, 2, 6, 4, 4, 7, 4, 5, 5, 4, 8, 5, 2, 8, 5];
 
 // How many bytes END or a command takes, by its own byte.
 fn size_of(op: usize) -> usize

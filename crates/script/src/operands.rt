@@ -1,4 +1,5 @@
-// A command's operands, read from the bytes after its own: "d, a, b are one-byte registers 0 to 63; k, m, w one byte; v four bytes".
+// A command's operands, read from the bytes after its own: "d, a, b are one-byte registers 0 to 63; k, m, w one byte; v four bytes", and of LTZS "h is a
+// one-byte count".
 ghost use mathlib.Core.Path.{_≡_};
 ghost use Prim.Native.Nat.{_+_, _≤_, _<_};
 ghost use lib.ListN.{length, getD};
@@ -18,15 +19,18 @@ fn operand(s: &[u8], at: usize, j: usize) -> usize
     }
 }
 
-// The command at a place whose byte is op, 1 to 13, where it is whole.
+// The command at a place whose byte is op, 1 to 14, where it is whole.
 pub fn command_at(s: &[u8], at: usize, op: usize) -> Command
     requires { ⌜ (1 ≤ op) × (op ≤ Script.lastByte) × (at + Script.byteSays (now s) at op .0 ≤ length (now s)) ⌝ }
     ensures { λ r. ⌜ Script.does (meant r) ≡ Script.byteSays (now (s .entry)) at op .1 ⌝ }
 {
     if op <= 6 {
-        up_to_mul(s, at, op)
-    } else {
+        return up_to_mul(s, at, op);
+    }
+    if op <= 11 {
         from_mod(s, at, op)
+    } else {
+        from_reveal(s, at, op)
     }
 }
 
@@ -55,15 +59,14 @@ fn up_to_mul(s: &[u8], at: usize, op: usize) -> Command
     }
 }
 
-// MOD, TRUNC, LTZ, OVER, BLOCKS, REVEAL and BITLT.
+// MOD, TRUNC, LTZ, OVER and BLOCKS.
 fn from_mod(s: &[u8], at: usize, op: usize) -> Command
-    requires { ⌜ (7 ≤ op) × (op ≤ Script.lastByte) × (at + Script.byteSays (now s) at op .0 ≤ length (now s)) ⌝ }
+    requires { ⌜ (7 ≤ op) × (op ≤ 11) × (at + Script.byteSays (now s) at op .0 ≤ length (now s)) ⌝ }
     ensures { λ r. ⌜ Script.does (meant r) ≡ Script.byteSays (now (s .entry)) at op .1 ⌝ }
 {
     let d = operand(s, at, 1);
     let a = operand(s, at, 2);
-    let w = operand(s, at, 3);
-    let k = w as u32;
+    let k = operand(s, at, 3) as u32;
     let m = operand(s, at, 4) as u32;
     match op {
         7 => Command::Mod { d, a, k, m },
@@ -75,13 +78,31 @@ fn from_mod(s: &[u8], at: usize, op: usize) -> Command
             k,
             v: words::word(s, at + 4),
         },
-        11 => Command::Blocks { d, a, k, m },
+        _ => Command::Blocks { d, a, k, m },
+    }
+}
+
+// REVEAL, BITLT and LTZS.
+fn from_reveal(s: &[u8], at: usize, op: usize) -> Command
+    requires { ⌜ (12 ≤ op) × (op ≤ Script.lastByte) × (at + Script.byteSays (now s) at op .0 ≤ length (now s)) ⌝ }
+    ensures { λ r. ⌜ Script.does (meant r) ≡ Script.byteSays (now (s .entry)) at op .1 ⌝ }
+{
+    let d = operand(s, at, 1);
+    let a = operand(s, at, 2);
+    let many = operand(s, at, 3);
+    match op {
+        12 => Command::Reveal { a: d },
         13 => Command::Bitlt {
             d,
             b: a,
-            w,
+            w: many,
             v: words::word(s, at + 4),
         },
-        _ => Command::Reveal { a: d },
+        _ => Command::Ltzs {
+            d,
+            a,
+            h: many,
+            k: operand(s, at, 4) as u32,
+        },
     }
 }

@@ -1,5 +1,5 @@
 // "Ranges: k from 2 to the field's largest; m from 1 to k − 1; v below p, except in BITLT, where w is 1 to 31, b + w at most 64 and v
-// below 2^w".
+// below 2^w". LTZS: "h from 1 to 16, both stretches ending by register 63", and "The two stretches must be equal or share no register."
 ghost use mathlib.Core.Path.{_≡_};
 ghost use mathlib.Core.Bool.{_&&_};
 ghost use mathlib.Core.List.{[], _∷_};
@@ -69,6 +69,37 @@ fn bits_in(d: usize, b: usize, w: usize, v: u32) -> bool
     true
 }
 
+// A stretch of h registers from d on ends by register 63.
+fn ends_in(d: usize, h: usize) -> bool
+    ensures { λ r. ⌜ r ≡ leb (d + h) 64 ⌝ }
+{
+    if 64 < d {
+        return false;
+    }
+    h <= 64 - d
+}
+
+// Stretches of h registers from d and from a on. Differences, unlike sums, fit whatever the numbers are.
+fn equal_or_apart(d: usize, a: usize, h: usize) -> bool
+    ensures { λ r. ⌜ r ≡ Script.passes (Script.equalOrApart d a h) ⌝ }
+{
+    if d == a {
+        return true;
+    }
+    if d < a {
+        return h <= a - d;
+    }
+    h <= d - a
+}
+
+// LTZS.
+fn stretches_in(largest: u32, d: usize, a: usize, h: usize, k: u32) -> bool
+    ensures { λ r. ⌜ r ≡ Script.allPass (Script.atMost 1 h ∷ Script.atMost h 16 ∷ Script.atMost (d + h) 64 ∷ Script.atMost (a + h) 64 ∷ Script.atMost 2 k ∷ Script.atMost k largest ∷ Script.equalOrApart d a h ∷ []) ⌝ }
+{
+    let with_k = both(2 <= k, both(k <= largest, equal_or_apart(d, a, h)));
+    both(1 <= h, both(h <= 16, both(ends_in(d, h), both(ends_in(a, h), with_k))))
+}
+
 // Whether a command's operands are in range; largest is the field's largest k.
 pub fn in_range(p: u32, largest: u32, c: Command) -> bool
     ensures { λ r. ⌜ r ≡ Script.inRanges p largest (meant c) ⌝ }
@@ -87,5 +118,6 @@ pub fn in_range(p: u32, largest: u32, c: Command) -> bool
         Command::Blocks { d, a, k, m } => with_m(largest, d, a, k, m),
         Command::Reveal { a } => a < 64,
         Command::Bitlt { d, b, w, v } => bits_in(d, b, w, v),
+        Command::Ltzs { d, a, h, k } => stretches_in(largest, d, a, h, k),
     }
 }

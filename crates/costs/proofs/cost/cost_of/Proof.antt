@@ -73,6 +73,17 @@ revealing-requires c κs = ranged _ _ (c .before .before .before .pre .2) (c .be
 comparing-requires : tie.Need-comparing-requires
 comparing-requires c κs = let r = ranged _ _ (c .before .before .before .pre .2) (c .before .c13 .given .1) in (r .0, r .1 .1 .0, r .1 .1 .1 .1 .0)
 
+sub-of-masks : tie.Need-sub-of-masks
+sub-of-masks c = let r = ranged _ _ (c .before .before .before .pre .2) (c .before .c14 .given .1) .1 .1 .1 .1 in omega (arith, r .0)
+
+of-masks-requires : tie.Need-of-masks-requires
+of-masks-requires c κs =
+    let r = ranged _ _ (c .before .before .before .pre .2) (c .before .c14 .given .1) in
+    (omega arith, r .1 .0, omega (arith, r .1 .1 .1 .1 .0), omega (arith, r .1 .1 .1 .1 .1 .0))
+
+on-stretches-requires : tie.Need-on-stretches-requires
+on-stretches-requires c κs = let r = ranged _ _ (c .before .before .before .before .pre .2) (c .before .before .c14 .given .1) in (r .1 .1 .0, r .1 .1 .1 .0)
+
 returns : tie.Need-returns
 unfolding costBy
 returns c = rw (c .before .before .before .c .given .1) (rw (c .before .one-input .ensures) at (c .on-none .ensures))
@@ -125,6 +136,10 @@ returns-13 : tie.Need-returns-13
 unfolding costBy
 returns-13 c = rw (c .before .before .c13 .given .1) (c .comparing .ensures)
 
+returns-14 : tie.Need-returns-14
+unfolding costBy
+returns-14 c = rw (c .before .before .before .c14 .given .1) (rw (c .before .of-masks .ensures) at (c .on-stretches .ensures))
+
 pub cost-of-spec : {M : Type 1} → statement M
 cost-of-spec =
     tie.close
@@ -133,4 +148,4 @@ cost-of-spec =
     on-one-requires (λ c. search needs) (λ c κs. search needs) on-two-requires-3 (λ c. search needs) of-mask-requires on-one-requires-2 (λ c. search needs)
     of-mask-requires-2 on-one-requires-3 (λ c. search needs) sub-of-mask of-mask-requires-3 on-one-requires-4 (λ c. search needs) sub-of-mask-2
     of-mask-requires-4 on-one-requires-5 (λ c. search needs) of-mask-requires-5 on-one-requires-6 (λ c. search needs) revealing-requires (λ c. search needs)
-    comparing-requires returns returns-2 returns-3 returns-4 returns-5 returns-6 returns-7 returns-8 returns-9 returns-10 returns-11 returns-12 returns-13)
+    comparing-requires (λ c. search needs) sub-of-masks of-masks-requires on-stretches-requires returns returns-2 returns-3 returns-4 returns-5 returns-6 returns-7 returns-8 returns-9 returns-10 returns-11 returns-12 returns-13 returns-14)

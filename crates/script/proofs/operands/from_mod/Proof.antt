@@ -10,6 +10,6 @@ pub from-mod-spec : {M : Type 1} → statement M
 from-mod-spec =
     tie.close
     (tie.spec (λ c κs. search needs) (λ c κs. search needs) (λ c κs. search needs) (λ c. search needs) (λ c κs. search needs) (λ c. search needs)
-    (λ c. search needs) (λ c κs. search (needs, room 10)) (λ c. search needs) (λ c κs. search (needs, room 13)) (λ c. search (needs, says-byte 7))
-    (λ c. search (needs, says-byte 8)) (λ c. search (needs, says-byte 9)) (λ c. search (needs, says-byte 10)) (λ c. search (needs, says-byte 11))
-    (λ c. search (needs, says-byte 13)) (λ c. says-byte 12 _ _ {op = c .before .before .before .before .before .before .args .op} (omega arith) (search needs)))
+    (λ c. search needs) (λ c κs. search (needs, room 10)) (λ c. search (needs, says-byte 7)) (λ c. search (needs, says-byte 8))
+    (λ c. search (needs, says-byte 9)) (λ c. search (needs, says-byte 10))
+    (λ c. says-byte 11 _ _ {op = c .before .before .before .before .before .before .args .op} (omega arith) (search needs)))

@@ -1,0 +1,230 @@
+-- LTZS is h LTZ in rising order: shown of one register more, by what a sign leaves, and so of h.
+-- Assumes nothing.
+use mathlib.Core.Path.{_≡_, refl, sym, ap, ap₂, _∙_}
+use mathlib.Core.Bool.{Bool, true, false, _&&_}
+use mathlib.Core.List.{List, [], _∷_, _++_, map, append-assoc, append-nil, List·Memᴰ as In, List·Memᴰ·head as here, List·Memᴰ·tail as there}
+use Prim.Native.Nat.{ℕ, zero, suc, _+_, _≤_, _<_}
+use native.Mathlib.Decide.{ℕ-discrete, decLt}
+use native.Mathlib.Omega.{arith}
+use lib.Dec.{T}
+use lib.ListN.{getD, set}
+use lib.Seq.{getD-set-other}
+use Rattle.algebra.specs.Lists.{from}
+use Rattle.algebra.proofs.Lists.{in-from, from-in}
+use Rattle.algebra.proofs.Tests.{and-left, and-right, and-both}
+use Rattle.model.specs.Deal.{Setting, Row, Deal, noRow}
+use Rattle.model.specs.Trees.{done}
+use Rattle.model.specs.Trees as Trees
+use Rattle.model.specs.Steps.{Worked, after, rowOps, byRows, Step, sign}
+use Rattle.model.specs.Script.{Command, LTZ, LTZS, Line, equalOrApart, passes, inRanges}
+use Rattle.model.specs.Counts.{added}
+use Rattle.model.specs.Costs.{costBy, cost}
+use Rattle.model.specs.Commands.{registersFrom, signs, command}
+use Rattle.model.specs.Parts.{stepped}
+use Rattle.model.specs.Run.{Spent, Supply, State, register, rowCommand, allSet, marked, check, pay, perform, finish, runLines}
+use Rattle.model.specs.Stretches.{EqualOrApart, ltzs, finishes, AllFinish, AsSigns, Stretches}
+use Rattle.model.proofs.Trying.{given-done, given-refused}
+use Rattle.model.proofs.Operands.{Standing, equal, before, after as past, said, pass, operands}
+use Rattle.model.proofs.Counts.{same-counts}
+use Rattle.model.proofs.Checks.{Passed, check-passed, passed-check}
+use Rattle.model.proofs.StepLaws.{sign-does, finish-put, run-line}
+
+-- the test of operands
+apart-stands : (d a h : ℕ) → ((r : ℕ) → In r (from d h) → In r (from a h) → ⊥) → Standing d a h
+apart-stands d a h n = go (decLt a (d + h)) (decLt d (a + h)) (decLt d a)
+  where
+    go : Dec (a < d + h) → Dec (d < a + h) → Dec (d < a) → Standing d a h
+    go (no l) m o = before (omega arith)
+    go (yes l) (no m) o = past (omega arith)
+    go (yes l) (yes m) (yes o) = absurd (n a (from-in d h a (omega arith) l) (from-in a h a (omega arith) (omega arith)))
+    go (yes l) (yes m) (no o) = absurd (n d (from-in d h d (omega arith) (omega arith)) (from-in a h d (omega arith) m))
+
+stands-apart : (d a h : ℕ) → Standing d a h → (d ≡ a → ⊥) → (r : ℕ) → In r (from d h) → In r (from a h) → ⊥
+stands-apart d a h (equal e) n r i j = n e
+stands-apart d a h (before l) n r i j = omega (arith, in-from d h i, in-from a h j)
+stands-apart d a h (past l) n r i j = omega (arith, in-from d h i, in-from a h j)
+
+tested : (d a h : ℕ) → EqualOrApart d a h
+tested d a h =
+    record {
+      equal = λ e. pass (equalOrApart d a h) (equal e);
+      apart = λ n. pass (equalOrApart d a h) (apart-stands d a h n);
+      no-other = λ t. stands-apart d a h (said (equalOrApart d a h) t);
+    }
+
+-- the registers from a on, of which h are read one after the other, while those from d on are written: none is written before it is read
+data Rising (d a h : ℕ) : Type 0 where
+  low : d ≤ a → Rising d a h
+  high : a + h ≤ d → Rising d a h
+
+rising : {d a h : ℕ} → Standing d a h → Rising d a h
+rising (equal e) = low (omega arith)
+rising (before l) = low (omega arith)
+rising (past l) = high l
+
+rising-more : {d a h : ℕ} → Rising d a (suc h) → Rising (suc d) (suc a) h
+rising-more (low l) = low (omega arith)
+rising-more (high l) = high (omega arith)
+
+not-written : {d a h : ℕ} → Rising d a (suc h) → (r : ℕ) → In r (from (suc a) h) → r ≡ d → ⊥
+not-written {d} {a} {h} (low l) r i e = omega (arith, in-from (suc a) h i)
+not-written {d} {a} {h} (high l) r i e = omega (arith, in-from (suc a) h i)
+
+registers-kept : (g : List Row) (d : ℕ) (x : Row) (b w : ℕ) → ((r : ℕ) → In r (from b w) → r ≡ d → ⊥)
+    → registersFrom noRow (set g d x) b w ≡ registersFrom noRow g b w
+unfolding registersFrom from
+registers-kept g d x b zero n = refl
+registers-kept g d x b (suc w) n =
+    ap₂ _∷_ (getD-set-other g d b x noRow (n b (here refl))) (registers-kept g d x (suc b) w (λ r i. n r (there i)))
+
+marks-kept : (marks : List Bool) (d : ℕ) (rs : List ℕ) → ((r : ℕ) → In r rs → r ≡ d → ⊥) → allSet (set marks d true) rs ≡ allSet marks rs
+unfolding allSet
+marks-kept marks d [] n = refl
+marks-kept marks d (r ∷ rs) n = ap₂ _&&_ (getD-set-other marks d r true false (n r (here refl))) (marks-kept marks d rs (λ r i. n r (there i)))
+
+module _ (S : Setting) (k : ℕ) where
+  -- what LTZS costs, register by register
+  pay-none : (d a : ℕ) (p : Spent) → pay (cost S (LTZS d a 0 k)) p ≡ p
+  unfolding pay costBy marked from
+  pay-none d a p = λ i. record { counts = same-counts {x = added (p .counts) (cost S (LTZS d a 0 k) .counts)} {y = p .counts} (omega arith) (omega arith) (omega arith) (omega arith) (omega arith) i; marks = p .marks }
+
+  pay-more : (d a h : ℕ) (p : Spent) → pay (cost S (LTZS d a (suc h) k)) p ≡ pay (cost S (LTZS (suc d) (suc a) h k)) (pay (cost S (LTZ d a k)) p)
+  unfolding pay costBy marked from
+  pay-more d a h p =
+      λ i. record {
+        counts = same-counts {x = added (p .counts) (cost S (LTZS d a (suc h) k) .counts)} {y = added (added (p .counts) (cost S (LTZ d a k) .counts)) (cost S (LTZS (suc d) (suc a) h k) .counts)} (omega arith) (omega arith) (omega arith) (omega arith) (omega arith) i;
+        marks = marked (set (p .marks) d true) (from (suc d) h);
+      }
+
+  module _ (input : List Row) where
+    none-finish : (d a : ℕ) (s : State) → finish S input (LTZS d a 0 k) s ≡ s
+    unfolding finish perform command signs registersFrom byRows
+    none-finish d a s =
+        λ i. record {
+          spent = pay-none d a (s .spent) i;
+          registers = s .registers;
+          deal = s .deal;
+          opened = append-nil (s .opened) i;
+          shown = append-nil (s .shown) i;
+        }
+
+    -- one LTZ, and the others after it
+    ltz-finish : (d a : ℕ) (s : State) → finish S input (LTZ d a k) s ≡ stepped (pay (cost S (LTZ d a k)) (s .spent)) d s (sign S k (register s a) (s .deal))
+    unfolding command
+    ltz-finish d a s = finish-put S input (LTZ d a k) d s _ (sign-does S k _ _ (s .deal))
+
+    worked : (i j d a h : ℕ) (g : List Row) (deal : Deal) → Rising d a (suc h)
+        → (let x = sign S k (getD g a noRow) deal in
+        byRows S (rowCommand S input i (LTZS d a (suc h) k) g done) deal
+        ≡ after (x .opened) [] (byRows S (rowCommand S input j (LTZS (suc d) (suc a) h k) (set g d (x .left)) done) (x .deal)))
+    unfolding command signs registersFrom
+    worked i j d a h g deal R =
+        let x = sign S k (getD g a noRow) deal in
+        rw (registers-kept g d (x .left) (suc a) h (not-written R)) (sign-does S k (getD g a noRow) _ deal)
+
+    more-stepped : (d a h : ℕ) (s : State) → Rising d a (suc h)
+        → finish S input (LTZS d a (suc h) k) s
+        ≡ finish S input (LTZS (suc d) (suc a) h k) (stepped (pay (cost S (LTZ d a k)) (s .spent)) d s (sign S k (register s a) (s .deal)))
+    unfolding finish perform
+    more-stepped d a h s R =
+        let x = sign S k (register s a) (s .deal) in
+        let j = pay (cost S (LTZ d a k)) (s .spent) .counts .inputs in
+        let w = byRows S (rowCommand S input j (LTZS (suc d) (suc a) h k) (set (s .registers) d (x .left)) done) (x .deal) in
+        rw (worked (s .spent .counts .inputs) j d a h (s .registers) (s .deal) R)
+        (λ i. record {
+          spent = pay-more d a h (s .spent) i;
+          registers = w .left;
+          deal = w .deal;
+          opened = sym (append-assoc (s .opened) (x .opened) (w .opened)) i;
+          shown = s .shown ++ w .shown;
+        })
+
+    more-finish : (d a h : ℕ) (s : State) → Rising d a (suc h)
+        → finish S input (LTZS d a (suc h) k) s ≡ finish S input (LTZS (suc d) (suc a) h k) (finish S input (LTZ d a k) s)
+    more-finish d a h s R = more-stepped d a h s R ∙ ap (finish S input (LTZS (suc d) (suc a) h k)) (sym (ltz-finish d a s))
+
+    finishes-so : (d a h : ℕ) (s : State) → Rising d a h → finish S input (LTZS d a h k) s ≡ finishes S input (ltzs d a h k) s
+    unfolding ltzs finishes
+    finishes-so d a zero s R = none-finish d a s
+    finishes-so d a (suc h) s R = more-finish d a h s R ∙ finishes-so (suc d) (suc a) h (finish S input (LTZ d a k) s) (rising-more R)
+
+  -- what the checks let through, register by register
+  first-passed : (u : Supply) (d a h : ℕ) (p : Spent) → Passed u (cost S (LTZS d a (suc h) k)) p → Passed u (cost S (LTZ d a k)) p
+  unfolding costBy from allSet
+  first-passed u d a h p P =
+      record {
+        reads = and-both (getD (p .marks) a false) true (and-left (getD (p .marks) a false) _ (P .reads)) tt;
+        inputs = P .inputs;
+        masks = omega (arith, P .masks);
+        triples = omega (arith, P .triples);
+        room = omega (arith, P .room);
+        shown = P .shown;
+      }
+
+  others-passed : (u : Supply) (d a h : ℕ) (p : Spent) → Rising d a (suc h) → Passed u (cost S (LTZS d a (suc h) k)) p
+      → Passed u (cost S (LTZS (suc d) (suc a) h k)) (pay (cost S (LTZ d a k)) p)
+  unfolding pay costBy from allSet marked
+  others-passed u d a h p R P =
+      record {
+        reads = rw (marks-kept (p .marks) d (from (suc a) h) (not-written R)) (and-right (getD (p .marks) a false) _ (P .reads));
+        inputs = omega (arith, P .inputs);
+        masks = omega (arith, P .masks);
+        triples = omega (arith, P .triples);
+        room = omega (arith, P .room);
+        shown = omega (arith, P .shown);
+      }
+
+  both-passed : (u : Supply) (d a h : ℕ) (p : Spent) → Rising d a (suc h) → Passed u (cost S (LTZ d a k)) p
+      → Passed u (cost S (LTZS (suc d) (suc a) h k)) (pay (cost S (LTZ d a k)) p) → Passed u (cost S (LTZS d a (suc h) k)) p
+  unfolding pay costBy from allSet marked
+  both-passed u d a h p R P Q =
+      record {
+        reads = and-both (getD (p .marks) a false) _ (and-left (getD (p .marks) a false) true (P .reads)) (rw (marks-kept (p .marks) d (from (suc a) h) (not-written R)) at (Q .reads));
+        inputs = omega (arith, Q .inputs);
+        masks = omega (arith, Q .masks);
+        triples = omega (arith, Q .triples);
+        room = omega (arith, Q .room);
+        shown = omega (arith, Q .shown);
+      }
+
+  one-passed : (u : Supply) (d a : ℕ) (p : Spent) → Passed u (cost S (LTZ d a k)) p → Passed u (cost S (LTZS d a 1 k)) p
+  unfolding costBy from
+  one-passed u d a p P = record { reads = P .reads; inputs = P .inputs; masks = P .masks; triples = omega (arith, P .triples); room = omega (arith, P .room); shown = P .shown }
+
+  all-so : (u : Supply) (d a h : ℕ) (p : Spent) → Rising d a h → Passed u (cost S (LTZS d a h k)) p → AllFinish S u (ltzs d a h k) p
+  unfolding ltzs
+  all-so u d a zero p R P = tt
+  all-so u d a (suc h) p R P =
+      (passed-check u _ p (first-passed u d a h p P), all-so u (suc d) (suc a) h _ (rising-more R) (others-passed u d a h p R P))
+
+  -- of one register at least
+  only-so : (u : Supply) (d a h : ℕ) (p : Spent) → Rising d a (suc h) → AllFinish S u (ltzs d a (suc h) k) p → Passed u (cost S (LTZS d a (suc h) k)) p
+  unfolding ltzs
+  only-so u d a zero p R A = one-passed u d a p (check-passed u _ p (A .0))
+  only-so u d a (suc h) p R A = both-passed u d a (suc h) p R (check-passed u _ p (A .0)) (only-so u (suc d) (suc a) h _ (rising-more R) (A .1))
+
+  -- a run past commands that all finish
+  runs-so : (u : Supply) (input : List Row) (end place : ℕ) (cs : List Command) (xs : List Line) (s : State) → AllFinish S u cs (s .spent)
+      → runLines S u input end (map (λ c. record { place = place; command = c }) cs ++ xs) s ≡ runLines S u input end xs (finishes S input cs s)
+  unfolding finishes finish
+  runs-so u input end place [] xs s A = refl
+  runs-so u input end place (c ∷ cs) xs s A =
+      run-line S u input end _ _ s ∙ given-done (check u (cost S c) (s .spent)) _ _ (A .0) ∙ runs-so u input end place cs xs (finish S input c s) (A .1)
+
+as-signs : (S : Setting) (K d a h k : ℕ) → T (inRanges (S .p) K (LTZS d a h k)) → AsSigns S d a h k
+as-signs S K d a zero k ok = absurd (let R = operands (S .p) K (LTZS d a 0 k) ok in omega arith)
+as-signs S K d a (suc h) k ok =
+    let R = rising (operands (S .p) K (LTZS d a (suc h) k) ok .1 .1 .1 .1 .1 .1 .0) in
+    record {
+      finishes-as = λ input s. finishes-so S k input d a (suc h) s R;
+      all = λ u s e. all-so S k u d a (suc h) s R (check-passed u _ s e);
+      or-nothing = λ u s A. passed-check u _ s (only-so S k u d a h s R A);
+      runs-as = λ u input end place xs s e.
+          run-line S u input end _ xs s ∙ given-done (check u (cost S (LTZS d a (suc h) k)) (s .spent)) _ _ e
+          ∙ ap (runLines S u input end xs) (finishes-so S k input d a (suc h) s R)
+          ∙ sym (runs-so S k u input end place (ltzs d a (suc h) k) xs s (all-so S k u d a (suc h) (s .spent) R (check-passed u _ (s .spent) e)));
+      ends-whole = λ u input end place xs s z. run-line S u input end _ xs s ∙ given-refused (check u (cost S (LTZS d a (suc h) k)) (s .spent)) _ _ z;
+    }
+
+pub stretches : Stretches
+stretches = record { equal-or-apart = tested; as-signs = as-signs }
