@@ -55,6 +55,10 @@ set-seven (suc w) cells zero x h k e = rw (e, take-at x (drop 7 cells) 7 e, drop
 set-seven (suc w) cells (suc d) x h k e =
     rw (first-seven cells d (onto x (drop (7 * suc d) cells)) (omega arith), others cells d x (omega arith), set-seven w (drop 7 cells) d x (omega arith) (rw (length-drop 7 cells) (omega arith)) e)
 
+-- a row of seven cells, written share by share
+pub whole-row : (i : ℕ) (row cells : List ℕ) → length row ≤ 7 → ontoAt i (take 7 row) cells ≡ ontoAt i row cells
+whole-row i row cells h = rw (take-all 7 row h)
+
 -- a row that was put
 pub stored : {d : ℕ} {Is : Row → Type 0} (row : Row) {cells cells′ : List ℕ} → length row ≡ 7 → Is row → cells′ ≡ ontoAt (7 * d) row cells → Stored d Is cells cells′
 stored row seven is e = record { row = row; seven = seven; is = is; put = e }

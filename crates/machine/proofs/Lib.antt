@@ -3,6 +3,7 @@ pub mod Keeping
 pub mod Going
 pub mod Readiness
 pub mod Performing
+pub mod Signing
 pub mod Matching
 pub mod Whole
 pub mod Attempts

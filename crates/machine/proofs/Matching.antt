@@ -9,7 +9,7 @@ use Rattle.model.specs.Bytes.{sevens}
 use Rattle.model.specs.Steps.{Row, product, comparison}
 use Rattle.model.specs.Counts.{Counts}
 use Rattle.model.specs.Script as Paper
-use Rattle.model.specs.Script.{MUL, REVEAL, BITLT, ranges}
+use Rattle.model.specs.Script.{MUL, REVEAL, BITLT, LTZS, ranges}
 use Rattle.model.specs.Costs.{costBy}
 use Rattle.model.specs.Checks.{pay}
 use Rattle.model.proofs.Operands.{AllSay, operands}
@@ -31,10 +31,10 @@ use Rattle.machine.specs.Cells.{registerIn, Stored, Revealed}
 use Rattle.machine.proofs.Cells.{stored}
 use Rattle.machine.specs.Places.{placesOf, Reached}
 use Rattle.machine.specs.declared.table.Table.{Table}
-use Rattle.machine.specs.Holding.{Lent, lent, Ready, Performs}
+use Rattle.machine.specs.Holding.{Lent, lent, Ready, Performs, CutReady, SignsReady, OnCells}
 use Rattle.machine.specs.Answers.{Payable, Finishes}
 use Rattle.machine.proofs.Readiness as Readiness
-use Rattle.machine.proofs.Performing.{multiply-performs, compare-performs, reveal-performs, cutCommand, CutReady, cut-ready, cut-performs}
+use Rattle.machine.proofs.Performing.{multiply-performs, compare-performs, reveal-performs, cutCommand, cut-ready, cut-performs}
 
 -- where a ready command reads and writes next can be computed
 pub reached : {s : List ℕ} {f : Frame} {k : Counts} {c : Paper.Command} {m : Lent} → Ready s f k c m → length s < 2 ^ 64 → length (m .log) < 2 ^ 64 → Reached f k
@@ -89,9 +89,28 @@ module _ {s : List ℕ} {f : Frame} {k : Counts} {c : Command} {m : Lent} {S : S
         → Revealed S at (registerIn (m .cells) a) (k .revealed) (m .log) (m .shown) log shown → Performs s f k (meant c) m (lent cells log shown)
     reveal-done is same W = done (rw (is, same) (reveal-performs (rw is at ready) (rw (K .setting, K .places) at W)))
 
+    -- LTZS
+    pub signs-asks : {d a h w : ℕ} → meant c′ ≡ LTZS d a h w → length (m .shown) < 2 ^ 64 → SignsReady s f k (m .cells) (m .log) d a h w
+    unfolding costBy
+    signs-asks {d} {a} {h} {w} is l =
+        let R : Ready s f k (LTZS d a h w) m = rw is at ready in
+        record {
+          framed = R .framed;
+          ranged = R .ranged;
+          size = R .size;
+          masks = R .masks;
+          triples = R .triples;
+          room = R .room;
+          revealed = omega (arith, R .space);
+        }
+
+    pub signs-done : {d a h w : ℕ} {cells log : List ℕ} → meant c′ ≡ LTZS d a h w → OnCells s f k (LTZS d a h w) (m .cells) (m .log) cells log
+        → Performs s f k (meant c) m (lent cells log (m .shown))
+    signs-done is P = done (rw is (P (m .shown)))
+
     -- a cut, whichever it is
     module _ (d a : ℕ) (y : Cut) (is : meant c′ ≡ cutCommand d a y) where
-      is-cut : CutReady s f k m d a y
+      is-cut : CutReady s f k (m .cells) (m .log) d a y
       is-cut = cut-ready y (rw is at ready)
 
       pub cut-asks : length (m .cells) ≡ 448 → CutRoom s (m .log) S at y × (length (m .cells) ≡ 448) × (a < 64)

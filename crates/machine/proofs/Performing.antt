@@ -25,7 +25,7 @@ use Rattle.steps.specs.Promises.{StepLeaves, MaskedLeaves, Left}
 use Rattle.steps.specs.Cuts.{widthOf, lowOf, cutStep, CutLeaves}
 use Rattle.machine.specs.Cells.{registerIn, Stored, Revealed}
 use Rattle.machine.specs.Places.{inputPlace, placesOf}
-use Rattle.machine.specs.Holding.{Lent, lent, Carries, Counting, Ready, Performs, inputsOf}
+use Rattle.machine.specs.Holding.{Lent, lent, Carries, Counting, Ready, Performs, CutReady, inputsOf}
 use Rattle.machine.proofs.Cells.{from-sevens}
 use Rattle.machine.proofs.Keeping.{register-is, log-more, log-same, carries-put, carries-reveal}
 use Rattle.machine.proofs.Readiness.{input-at, dealt, mask-next}
@@ -160,21 +160,9 @@ cut-puts s f d a (Over w v) x = over-does (settingIn f) w v _ _ (x .deal)
 cut-puts s f d a (Blocks w l) x = blocks-does (settingIn f) w l _ _ (x .deal)
 
 -- what a cut costs and asks, whichever it is
-pub record CutReady (s : List ℕ) (f : Frame) (k : Counts) (m : Lent) (d a : ℕ) (y : Cut) : Type 0 where
-  pub framed : Framed s f
-  pub size : length (m .cells) ≡ 448
-  pub d-in : d < 64
-  pub a-in : a < 64
-  pub width : widthOf y ≤ f .largest
-  pub least : 1 ≤ lowOf y
-  pub less : lowOf y < widthOf y
-  pub mask : k .masks + 1 ≤ f .masks
-  pub triples : k .triples + modTriples (f .l) (lowOf y) ≤ f .triples
-  pub openings : (k .openings + (1 + 2 * modTriples (f .l) (lowOf y))) * f .n ≤ length (m .log)
-
 module _ {s : List ℕ} {f : Frame} {k : Counts} {m : Lent} {d a : ℕ} where
   with-m : (y : Cut) {c : Command} → Ready s f k c m → cost (settingIn f) c ≡ masking d a (modTriples (f .l) (lowOf y)) → d < 64 → a < 64 → widthOf y ≤ f .largest → 1 ≤ lowOf y → lowOf y < widthOf y
-      → CutReady s f k m d a y
+      → CutReady s f k (m .cells) (m .log) d a y
   with-m y R e hd ha hw hl hm =
       record {
         framed = R .framed;
@@ -189,7 +177,7 @@ module _ {s : List ℕ} {f : Frame} {k : Counts} {m : Lent} {d a : ℕ} where
         openings = rw e at (R .room);
       }
 
-  pub cut-ready : (y : Cut) → Ready s f k (cutCommand d a y) m → CutReady s f k m d a y
+  pub cut-ready : (y : Cut) → Ready s f k (cutCommand d a y) m → CutReady s f k (m .cells) (m .log) d a y
   unfolding costBy
   cut-ready (Mod w l) R = let r = operands (f .p) (f .largest) (MOD d a w l) (R .ranged) in with-m (Mod w l) R refl (r .0) (r .1 .0) (r .1 .1 .1 .0) (r .1 .1 .1 .1 .0) (r .1 .1 .1 .1 .1 .0)
   cut-ready (Trunc w l) R = let r = operands (f .p) (f .largest) (TRUNC d a w l) (R .ranged) in with-m (Trunc w l) R refl (r .0) (r .1 .0) (r .1 .1 .1 .0) (r .1 .1 .1 .1 .0) (r .1 .1 .1 .1 .1 .0)
@@ -197,7 +185,7 @@ module _ {s : List ℕ} {f : Frame} {k : Counts} {m : Lent} {d a : ℕ} where
   cut-ready (Over w v) R = let r = operands (f .p) (f .largest) (OVER d a w v) (R .ranged) in with-m (Over w v) R refl (r .0) (r .1 .0) (r .1 .1 .1 .0) (omega (arith, r .1 .1 .0)) (omega (arith, r .1 .1 .0))
   cut-ready (Blocks w l) R = let r = operands (f .p) (f .largest) (BLOCKS d a w l) (R .ranged) in with-m (Blocks w l) R refl (r .0) (r .1 .0) (r .1 .1 .1 .0) (r .1 .1 .1 .1 .0) (r .1 .1 .1 .1 .1 .0)
 
-  pub cut-performs : {y : Cut} {cells log : List ℕ} → CutReady s f k m d a y
+  pub cut-performs : {y : Cut} {cells log : List ℕ} → CutReady s f k (m .cells) (m .log) d a y
       → Stored d (λ z. CutLeaves s (settingFrom f) (placesOf f k) y (registerIn (m .cells) a) z (m .log) log) (m .cells) cells
       → Performs s f k (cutCommand d a y) m (lent cells log (m .shown))
   cut-performs {y} R =

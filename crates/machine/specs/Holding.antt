@@ -2,7 +2,7 @@
 -- Assumes nothing.
 use mathlib.Core.Path.{_≡_}
 use mathlib.Core.List.{List}
-use Prim.Native.Nat.{ℕ, _+_, _*_, _≤_, _<_}
+use Prim.Native.Nat.{ℕ, _+_, _-_, _*_, _^_, _≤_, _<_}
 use lib.Dec.{T}
 use lib.ListN.{length, drop}
 use Rattle.algebra.specs.Lists.{Below, onto}
@@ -10,12 +10,14 @@ use Rattle.model.specs.Bytes.{sevens}
 use Rattle.model.specs.Deal.{Setting}
 use Rattle.model.specs.Steps.{written}
 use Rattle.model.specs.Counts.{Counts}
-use Rattle.model.specs.Script.{Command, inRanges}
-use Rattle.model.specs.Costs.{cost}
+use Rattle.model.specs.Script.{Command, LTZS, inRanges}
+use Rattle.model.specs.Costs.{modTriples, cost}
 use Rattle.model.specs.Run.{State, finish}
 use Rattle.sheet.specs.declared.frame.Frame.{Frame}
 use Rattle.sheet.specs.Framed.{settingIn, Framed}
 pub use Rattle.sheet.specs.Framed.{inputsOf, dealOf}
+use Rattle.steps.specs.declared.cut.Cut.{Cut}
+use Rattle.steps.specs.Cuts.{widthOf, lowOf}
 use Rattle.machine.specs.Cells.{registerIn}
 
 -- what a run writes: the cells of the registers, the record and the revealed list
@@ -61,3 +63,30 @@ abbrev pub Performs : List ℕ → Frame → Counts → Command → Lent → Len
 Performs s f k c m m′ =
     (log₀ shown₀ : List ℕ) (x : State) → Counting s f k x → Carries (settingIn f) log₀ shown₀ m x
     → Carries (settingIn f) log₀ shown₀ m′ (finish (settingIn f) (inputsOf s f) c x)
+
+-- the same of a command that leaves the revealed list as it is
+abbrev pub OnCells : List ℕ → Frame → Counts → Command → List ℕ → List ℕ → List ℕ → List ℕ → Type 0
+OnCells s f k c cells log cells′ log′ = (shown : List ℕ) → Performs s f k c (lent cells log shown) (lent cells′ log′ shown)
+
+-- what a cut of register a into register d asks of cells and record, whichever it is
+pub record CutReady (s : List ℕ) (f : Frame) (k : Counts) (cells log : List ℕ) (d a : ℕ) (y : Cut) : Type 0 where
+  pub framed : Framed s f
+  pub size : length cells ≡ 448
+  pub d-in : d < 64
+  pub a-in : a < 64
+  pub width : widthOf y ≤ f .largest
+  pub least : 1 ≤ lowOf y
+  pub less : lowOf y < widthOf y
+  pub mask : k .masks + 1 ≤ f .masks
+  pub triples : k .triples + modTriples (f .l) (lowOf y) ≤ f .triples
+  pub openings : (k .openings + (1 + 2 * modTriples (f .l) (lowOf y))) * f .n ≤ length log
+
+-- and what LTZS d a h w asks
+pub record SignsReady (s : List ℕ) (f : Frame) (k : Counts) (cells log : List ℕ) (d a h w : ℕ) : Type 0 where
+  pub framed : Framed s f
+  pub ranged : T (inRanges (f .p) (f .largest) (LTZS d a h w))
+  pub size : length cells ≡ 448
+  pub masks : k .masks + h ≤ f .masks
+  pub triples : k .triples + h * modTriples (f .l) (w - 1) ≤ f .triples
+  pub room : (k .openings + h * (1 + 2 * modTriples (f .l) (w - 1))) * f .n ≤ length log
+  pub revealed : k .revealed < 2 ^ 64

@@ -6,6 +6,7 @@ ghost use Rattle.machine.specs.Holding.{lent, Ready, Performs};
 ghost use Rattle.machine.specs.Answers.{Payable, Finishes};
 use crate::cutting::cut_from;
 use crate::table::Table;
+use crate::table::places_of;
 use costs::cost::Cost;
 use script::command::Command;
 use sheet::frame::Frame;
@@ -18,7 +19,8 @@ impl Table {
         ensures { λ r. ⌜ (r .spent ≡ self .spent) × Performs (now (s .entry)) f (countsOf (self .spent .counts)) (meant c) (lent (self .cells) (now (log .entry)) (now (revealed .entry))) (lent (r .cells) (now (log .exit)) (now (revealed .exit))) ⌝ }
     {
         let setting = f.setting();
-        let at = self.places(f);
+        let spent = self.spent.counts;
+        let at = places_of(f, spent);
         match c {
             Command::Load { d } => self.load(f, s, d),
             Command::Const { d, v } => self.fill(setting, d, v),
@@ -56,6 +58,7 @@ impl Table {
             }
             Command::Reveal { a } => self.reveal(setting, at, log, revealed, a),
             Command::Bitlt { d, b, w, v } => self.compare(setting, at, s, log, d, b, w, v),
+            Command::Ltzs { d, a, h, k } => self.signs(f, s, log, d, a, h, k),
         }
     }
 

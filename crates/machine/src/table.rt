@@ -9,6 +9,7 @@ ghost use Rattle.costs.specs.Costing.{countsOf, costOf, spentOf, Summing};
 ghost use Rattle.machine.specs.Cells.{registerIn};
 ghost use Rattle.machine.specs.Places.{placesOf, Reached};
 use costs::cost::Cost;
+use costs::counts::Counts;
 use costs::spent;
 use costs::spent::Spent;
 use secret::Row;
@@ -57,19 +58,18 @@ impl Table {
         self.spent = after;
         self
     }
+}
 
-    // The next places of mask, triple and record.
-    pub fn places(self, f: Frame) -> Places
-        requires { ⌜ Reached f (countsOf (self .spent .counts)) ⌝ }
-        ensures { λ r. ⌜ r ≡ placesOf f (countsOf (self .spent .counts)) ⌝ }
-    {
-        let k = self.spent.counts;
-        let n = f.n;
-        Places {
-            mask: f.mask + k.masks * (f.l * (4 * n)),
-            triple: f.triple + k.triples * (12 * n),
-            log: k.openings * n,
-        }
+// The next places of mask, triple and record, where so much was spent.
+pub fn places_of(f: Frame, spent: Counts) -> Places
+    requires { ⌜ Reached f (countsOf spent) ⌝ }
+    ensures { λ r. ⌜ r ≡ placesOf f (countsOf spent) ⌝ }
+{
+    let n = f.n;
+    Places {
+        mask: f.mask + spent.masks * (f.l * (4 * n)),
+        triple: f.triple + spent.triples * (12 * n),
+        log: spent.openings * n,
     }
 }
 

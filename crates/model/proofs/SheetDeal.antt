@@ -53,7 +53,7 @@ triples-same (x ∷ xs) (y ∷ ys) e r =
     ap₂ _∷_ (λ i. record { a = p i; b = q i; c = o i }) (triples-same xs ys (omega arith) (cc))
 
 module _ (s : List ℕ) (n : ℕ) where
-  length-at : (i c : ℕ) → length (rowsAt s n i c) ≡ c
+  pub length-at : (i c : ℕ) → length (rowsAt s n i c) ≡ c
   unfolding rowsAt
   length-at i zero = refl
   length-at i (suc c) = ap suc (length-at (i + 4 * n) c)

@@ -109,7 +109,7 @@ module _ (S : Setting) (k : ℕ) where
         }
 
     -- one LTZ, and the others after it
-    ltz-finish : (d a : ℕ) (s : State) → finish S input (LTZ d a k) s ≡ stepped (pay (cost S (LTZ d a k)) (s .spent)) d s (sign S k (register s a) (s .deal))
+    pub ltz-finish : (d a : ℕ) (s : State) → finish S input (LTZ d a k) s ≡ stepped (pay (cost S (LTZ d a k)) (s .spent)) d s (sign S k (register s a) (s .deal))
     unfolding command
     ltz-finish d a s = finish-put S input (LTZ d a k) d s _ (sign-does S k _ _ (s .deal))
 
@@ -210,6 +210,20 @@ module _ (S : Setting) (k : ℕ) where
   runs-so u input end place [] xs s A = refl
   runs-so u input end place (c ∷ cs) xs s A =
       run-line S u input end _ _ s ∙ given-done (check u (cost S c) (s .spent)) _ _ (A .0) ∙ runs-so u input end place cs xs (finish S input c s) (A .1)
+
+-- the last of the h
+pub finishes-last : (S : Setting) (input : List Row) (d a i k : ℕ) (s : State)
+    → finishes S input (ltzs d a (suc i) k) s ≡ finish S input (LTZ (d + i) (a + i) k) (finishes S input (ltzs d a i k) s)
+unfolding ltzs finishes
+finishes-last S input d a zero k s =
+    let e : d ≡ d + 0 = omega arith in
+    let f : a ≡ a + 0 = omega arith in
+    ap₂ (λ (x y : ℕ). finish S input (LTZ x y k) s) e f
+finishes-last S input d a (suc i) k s =
+    let e : suc d + i ≡ d + suc i = omega arith in
+    let f : suc a + i ≡ a + suc i = omega arith in
+    finishes-last S input (suc d) (suc a) i k (finish S input (LTZ d a k) s)
+    ∙ ap₂ (λ (x y : ℕ). finish S input (LTZ x y k) (finishes S input (ltzs (suc d) (suc a) i k) (finish S input (LTZ d a k) s))) e f
 
 as-signs : (S : Setting) (K d a h k : ℕ) → T (inRanges (S .p) K (LTZS d a h k)) → AsSigns S d a h k
 as-signs S K d a zero k ok = absurd (let R = operands (S .p) K (LTZS d a 0 k) ok in omega arith)

@@ -54,7 +54,7 @@ forecastCases =
     -- 10: an empty script
     ∷ forecastOf (0 ∷ 3 ∷ 1 ∷ 0 ∷ 0 ∷ 0 ∷ 0 ∷ 0 ∷ 0 ∷ 0 ∷ 0 ∷ []) 10 0
     -- 9 before 21: a byte that is no command
-    ∷ forecastOf (0 ∷ 3 ∷ 1 ∷ 0 ∷ 0 ∷ 0 ∷ 0 ∷ 0 ∷ 0 ∷ 4 ∷ 0 ∷ 12 ∷ 0 ∷ 15 ∷ 0 ∷ []) 9 2
+    ∷ forecastOf (0 ∷ 3 ∷ 1 ∷ 0 ∷ 0 ∷ 0 ∷ 0 ∷ 0 ∷ 0 ∷ 4 ∷ 0 ∷ 12 ∷ 0 ∷ 14 ∷ 0 ∷ []) 9 2
     -- 10 before 21: operands cut off
     ∷ forecastOf (0 ∷ 3 ∷ 1 ∷ 0 ∷ 0 ∷ 0 ∷ 0 ∷ 0 ∷ 0 ∷ 5 ∷ 0 ∷ 12 ∷ 0 ∷ 6 ∷ 0 ∷ 0 ∷ []) 10 2
     -- 10 before 21: no END, the place is the script length

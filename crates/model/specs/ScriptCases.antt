@@ -8,13 +8,13 @@ use Rattle.model.specs.CaseForms.{Case, scripted}
 unfoldable pub scriptCases : List Case
 scriptCases =
     -- 9: byte 0E
-    scripted 0 (15 ∷ 0 ∷ []) 9 0
+    scripted 0 (14 ∷ 0 ∷ []) 9 0
     -- 9: its place is the command's offset
-    ∷ scripted 0 (1 ∷ 0 ∷ 15 ∷ 0 ∷ []) 9 2
+    ∷ scripted 0 (1 ∷ 0 ∷ 14 ∷ 0 ∷ []) 9 2
     -- 9: byte FF
     ∷ scripted 0 (1 ∷ 0 ∷ 255 ∷ 0 ∷ []) 9 2
     -- 9 before 10: no END either
-    ∷ scripted 0 (1 ∷ 0 ∷ 15 ∷ []) 9 2
+    ∷ scripted 0 (1 ∷ 0 ∷ 14 ∷ []) 9 2
     -- 10: an empty script
     ∷ scripted 0 [] 10 0
     -- 10: no END: the place is the script length
@@ -62,7 +62,7 @@ scriptCases =
     -- 11 before 9, command by command
     ∷ scripted 0 (1 ∷ 0 ∷ 1 ∷ 64 ∷ 14 ∷ 0 ∷ []) 11 2
     -- 9 before 11, command by command
-    ∷ scripted 0 (1 ∷ 0 ∷ 15 ∷ 1 ∷ 64 ∷ 0 ∷ []) 9 2
+    ∷ scripted 0 (1 ∷ 0 ∷ 14 ∷ 1 ∷ 64 ∷ 0 ∷ []) 9 2
     -- 11 before a missing END
     ∷ scripted 0 (1 ∷ 0 ∷ 1 ∷ 64 ∷ []) 11 2
     -- 11 before bytes after END

@@ -184,7 +184,7 @@ sheetCases =
     -- 4: 513 triples
     ∷ stopped (0 ∷ 3 ∷ 1 ∷ 0 ∷ 0 ∷ 0 ∷ 0 ∷ 1 ∷ 2 ∷ 1 ∷ 0 ∷ []) (0 ∷ []) (13 ∷ (replicate 4616 0)) 4 0
     -- 9: 1,024 bytes of script, the first is 0E
-    ∷ stopped (0 ∷ 3 ∷ 1 ∷ 0 ∷ 0 ∷ 0 ∷ 0 ∷ 0 ∷ 0 ∷ 0 ∷ 4 ∷ []) (15 ∷ (replicate 1023 0)) [] 9 0
+    ∷ stopped (0 ∷ 3 ∷ 1 ∷ 0 ∷ 0 ∷ 0 ∷ 0 ∷ 0 ∷ 0 ∷ 0 ∷ 4 ∷ []) (14 ∷ (replicate 1023 0)) [] 9 0
     -- 4: 1,025 bytes of script
     ∷ stopped (0 ∷ 3 ∷ 1 ∷ 0 ∷ 0 ∷ 0 ∷ 0 ∷ 0 ∷ 0 ∷ 1 ∷ 4 ∷ []) (14 ∷ (replicate 1024 0)) [] 4 0
     ∷ []

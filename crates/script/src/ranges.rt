@@ -97,7 +97,10 @@ fn stretches_in(largest: u32, d: usize, a: usize, h: usize, k: u32) -> bool
     ensures { λ r. ⌜ r ≡ Script.allPass (Script.atMost 1 h ∷ Script.atMost h 16 ∷ Script.atMost (d + h) 64 ∷ Script.atMost (a + h) 64 ∷ Script.atMost 2 k ∷ Script.atMost k largest ∷ Script.equalOrApart d a h ∷ []) ⌝ }
 {
     let with_k = both(2 <= k, both(k <= largest, equal_or_apart(d, a, h)));
-    both(1 <= h, both(h <= 16, both(ends_in(d, h), both(ends_in(a, h), with_k))))
+    both(
+        1 <= h,
+        both(h <= 16, both(ends_in(d, h), both(ends_in(a, h), with_k))),
+    )
 }
 
 // Whether a command's operands are in range; largest is the field's largest k.

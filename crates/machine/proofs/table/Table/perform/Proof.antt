@@ -12,25 +12,28 @@ use Rattle.machine.specs.declared.table.Table.{Table}
 use Rattle.machine.specs.Holding.{lent}
 use Rattle.machine.proofs.Readiness.{input-fits}
 use Rattle.machine.proofs.Performing.{load-performs, fill-performs, add-performs, sub-performs, scale-performs}
-use Rattle.machine.proofs.Matching.{Known, reached, fits, ready, says, done, has-room, multiply-done, compare-done, reveal-asks, reveal-done, cut-asks, cut-goes, cut-done}
+use Rattle.machine.proofs.Matching.{Known, reached, fits, ready, says, done, has-room, multiply-done, compare-done, reveal-asks, reveal-done, signs-asks, signs-done, cut-asks, cut-goes, cut-done}
 use Rattle.machine.proofs.table.Table.perform.Statement.{statement}
 use Rattle.machine.proofs.table.Table.perform.Tie as tie
 
-places-requires : tie.Need-places-requires
-places-requires c κs =
-    let start = c .before .before .before .before in
+places-of-requires : tie.Need-places-of-requires
+places-of-requires c κs =
+    let start = c .before .before .before .before .before in
     let hs : length (now (start .args .s)) < 2 ^ 64 = search needs in
     let hl : length (now (start .args .log)) < 2 ^ 64 = search needs in
     reached (start .pre) hs hl
 
 -- before the match
-abbrev start : tie.After-places → tie.Start
-start c = c .before .before .before .before .before
+abbrev start : tie.After-places-of → tie.Start
+start c = c .before .before .before .before .before .before
 
-known : (c : tie.After-places)
+known : (c : tie.After-places-of)
     → Known (now (start c .args .s)) (start c .args .f) (countsOf (start c .args .t1 .spent .counts)) (start c .args .c)
-    (lent (start c .args .t1 .cells) (now (start c .args .log)) (now (start c .args .revealed))) (c .before .setting .result) (c .places .result)
-known c = record { is-ready = start c .pre; setting = c .before .setting .ensures; places = c .places .ensures }
+    (lent (start c .args .t1 .cells) (now (start c .args .log)) (now (start c .args .revealed))) (c .before .before .setting .result) (c .places-of .result)
+known c = record { is-ready = start c .pre; setting = c .before .before .setting .ensures; places = c .places-of .ensures }
+
+shown-fits : (c : tie.After-places-of) → length (now (start c .args .revealed)) < 2 ^ 64
+shown-fits c = search needs
 
 load-requires : tie.Need-load-requires
 unfolding costBy
@@ -118,6 +121,11 @@ compare-requires c κs =
     let e = c .before .before .c13 .given .1 in
     let r = says K e in
     (has-room K e _ (ready K e .triples) (ready K e .room), r .0, r .1 .1 .0, r .1 .1 .1 .0, r .1 .1 .1 .1 .0)
+
+signs-requires : tie.Need-signs-requires
+signs-requires c κs =
+    let K = known (c .before .before .before .before) in
+    signs-asks K (c .before .before .c14 .given .1) refl (shown-fits (c .before .before .before .before))
 
 returns : tie.Need-returns
 returns c =
@@ -216,7 +224,14 @@ returns-13 c =
     let e = call .before .before .before .c13 .given .1 in
     (call .compare .ensures .1, compare-done K e refl (call .compare .ensures .0))
 
+returns-14 : tie.Need-returns-14
+returns-14 c =
+    let call = c .before .before in
+    let K = known (call .before .before .before .before .before) in
+    let e = call .before .before .before .c14 .given .1 in
+    (call .signs .ensures .0, signs-done K e refl (call .signs .ensures .1))
+
 pub perform-spec : {M : Type 1} → statement M
 perform-spec =
     tie.close
-    (tie.spec (λ c κs. search needs) places-requires (λ c. search needs) load-requires (λ c. search needs) fill-requires (λ c. search needs) add-requires (λ c. search needs) sub-requires (λ c. search needs) scale-requires (λ c. search needs) multiply-requires (λ c. search needs) cut-from-requires put-requires (λ c. search needs) cut-from-requires-2 put-requires-2 (λ c. search needs) cut-from-requires-3 put-requires-3 (λ c. search needs) cut-from-requires-4 put-requires-4 (λ c. search needs) cut-from-requires-5 put-requires-5 (λ c. search needs) reveal-requires (λ c. search needs) compare-requires returns returns-2 returns-3 returns-4 returns-5 (λ c. search needs) returns-6 (λ c. search needs) returns-7 (λ c. search needs) returns-8 (λ c. search needs) returns-9 (λ c. search needs) returns-10 (λ c. search needs) returns-11 (λ c. search needs) (λ c. search needs) returns-12 (λ c. search needs) returns-13)
+    (tie.spec (λ c κs. search needs) places-of-requires (λ c. search needs) load-requires (λ c. search needs) fill-requires (λ c. search needs) add-requires (λ c. search needs) sub-requires (λ c. search needs) scale-requires (λ c. search needs) multiply-requires (λ c. search needs) cut-from-requires put-requires (λ c. search needs) cut-from-requires-2 put-requires-2 (λ c. search needs) cut-from-requires-3 put-requires-3 (λ c. search needs) cut-from-requires-4 put-requires-4 (λ c. search needs) cut-from-requires-5 put-requires-5 (λ c. search needs) reveal-requires (λ c. search needs) compare-requires (λ c. search needs) signs-requires returns returns-2 returns-3 returns-4 returns-5 (λ c. search needs) returns-6 (λ c. search needs) returns-7 (λ c. search needs) returns-8 (λ c. search needs) returns-9 (λ c. search needs) returns-10 (λ c. search needs) returns-11 (λ c. search needs) (λ c. search needs) returns-12 (λ c. search needs) returns-13 (λ c. search needs) returns-14)

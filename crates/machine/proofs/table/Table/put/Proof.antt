@@ -1,14 +1,12 @@
 -- `Table::put` meets its contract. The loop's invariant: the first j shares stand in the cells of register d, and what was spent is as it was.
 -- Assumes nothing.
 use mathlib.Core.Path.{_≡_, refl, _∙_}
-use mathlib.Core.List.{List}
-use Prim.Native.Nat.{ℕ, _-_, _≤_}
+use Prim.Native.Nat.{_-_}
 use native.Mathlib.Omega.{arith}
-use lib.ListN.{length, take}
-use lib.Seq.{take-all}
+use lib.ListN.{length}
 use borrow.Author.Needs.{needs}
-use Rattle.algebra.specs.Lists.{ontoAt}
 use Rattle.algebra.proofs.Lists.{WritingAt, writing-at-start, writing-at-more, writing-at-end}
+use Rattle.machine.proofs.Cells.{whole-row}
 use Rattle.machine.proofs.table.Table.put.Statement.{statement}
 use Rattle.machine.proofs.table.Table.put.Tie as tie
 
@@ -32,10 +30,7 @@ returns c =
     let e : length (start .args .t1 .cells) ≡ 448 = search needs in
     let x : length (start .args .t3 .shares) ≡ 7 = search needs in
     let I = c .before .loop .inv in
-    (writing-at-end (I .0) (omega arith) (omega (arith, start .pre)) (omega arith) ∙ whole _ _ _ (omega arith), I .1)
-  where
-    whole : (i : ℕ) (row cells : List ℕ) → length row ≤ 7 → ontoAt i (take 7 row) cells ≡ ontoAt i row cells
-    whole i row cells h = rw (take-all 7 row h)
+    (writing-at-end (I .0) (omega arith) (omega (arith, start .pre)) (omega arith) ∙ whole-row _ _ _ (omega arith), I .1)
 
 pub put-spec : {M : Type 1} → statement M
 put-spec =
