@@ -173,7 +173,8 @@ fn needed(head: &[u8]) -> Option<Vec<u16>> {
     if line.starts_with("The whole script needs ") {
         return Some(numbers_in(line));
     }
-    let numbers = numbers_in(line.strip_prefix("By header and script the run comes to END. It takes ")?);
+    let numbers =
+        numbers_in(line.strip_prefix("By header and script the run comes to END. It takes ")?);
     Some(numbers.into_iter().step_by(2).collect())
 }
 

@@ -112,7 +112,7 @@ mod tests {
                 "59724-bytes",
                 "The input has 59724 bytes or more: header and script have 12, and a whole sheet has 192.",
             ),
-            ("no-command", "The byte at 2 is 14, and the last command is 13."),
+            ("no-command", "The byte at 2 is 15, and the last command is 14."),
             ("empty-script", "The script has 0 bytes and no END."),
             ("no-end", "The script has 2 bytes and no END."),
             ("cut-off-mul", "MUL at 2 is cut off by the script's end."),

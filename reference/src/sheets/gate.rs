@@ -81,7 +81,7 @@ fn faults() -> [(u32, Fault); 11] {
                 amount: 1,
             },
         ),
-        (9, Fault::Script(vec![0x0E])),
+        (9, Fault::Script(vec![0x0F])),
         (10, Fault::Script(vec![])),
         (11, Fault::Script(vec![0x01, 64, 0x00])),
     ]

@@ -5,7 +5,7 @@ use super::{held, Draft, Held};
 pub fn all() -> Vec<Held> {
     let scripts: [(&str, &[u8]); 8] = [
         ("10: an empty script", &[]),
-        ("9 before 21: a byte that is no command", &[12, 0, 14, 0]),
+        ("9 before 21: a byte that is no command", &[12, 0, 15, 0]),
         ("10 before 21: operands cut off", &[12, 0, 6, 0, 0]),
         (
             "10 before 21: no END, the place is the script length",

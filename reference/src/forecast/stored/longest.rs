@@ -60,7 +60,7 @@ fn lengths() -> Vec<Told> {
         with(&[&script[..], &[0]].concat(), LENGTH, 0),
         with(&[1, 0].repeat(512), FORM, 1024),
         with(&[0; 1024], FORM, 1),
-        with(&ended(&[14]), COMMAND, 1023),
+        with(&ended(&[15]), COMMAND, 1023),
         with(&ended(&[12]), FORM, 1023),
         with(&ended(&[0, 0, 0]), FORM, 1022),
         with(&ended(&[12, 64, 0]), RANGE, 1021),

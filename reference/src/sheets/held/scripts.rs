@@ -40,10 +40,10 @@ fn alone(says: &'static str, field: u8, command: Command) -> Held {
 
 fn commands() -> Vec<Held> {
     vec![
-        held("9: byte 0E", 0, &[14, 0]),
-        held("9: its place is the command's offset", 0, &[1, 0, 14, 0]),
+        held("9: byte 0F", 0, &[15, 0]),
+        held("9: its place is the command's offset", 0, &[1, 0, 15, 0]),
         held("9: byte FF", 0, &[1, 0, 255, 0]),
-        held("9 before 10: no END either", 0, &[1, 0, 14]),
+        held("9 before 10: no END either", 0, &[1, 0, 15]),
     ]
 }
 
@@ -57,7 +57,7 @@ fn ends() -> Vec<Held> {
             &[1, 0, 0, 0],
         ),
         held("10: END twice", 0, &[0, 0]),
-        held("10: what follows END is not read", 0, &[1, 0, 0, 14]),
+        held("10: what follows END is not read", 0, &[1, 0, 0, 15]),
         held("10: nor is it tried for 11", 0, &[1, 0, 0, 1, 64, 0]),
         held(
             "22: 100 times LOAD 1, and END: a longer script is read whole",
@@ -106,8 +106,8 @@ fn sizes() -> Vec<Held> {
 fn first_of_two() -> Vec<Held> {
     vec![
         held("10 before 11: ADD 64 0, cut off", 0, &[1, 0, 3, 64, 0]),
-        held("11 before 9, command by command", 0, &[1, 0, 1, 64, 14, 0]),
-        held("9 before 11, command by command", 0, &[1, 0, 14, 1, 64, 0]),
+        held("11 before 9, command by command", 0, &[1, 0, 1, 64, 15, 0]),
+        held("9 before 11, command by command", 0, &[1, 0, 15, 1, 64, 0]),
         held("11 before a missing END", 0, &[1, 0, 1, 64]),
         held("11 before bytes after END", 0, &[1, 0, 1, 64, 0, 0]),
         held("11 before operands cut off", 0, &[1, 0, 1, 64, 6, 0]),
