@@ -213,6 +213,35 @@ mod tests {
         }
     }
 
+    /// -1 and -4 are below 0.
+    #[test]
+    fn signs_are_those_that_the_comments_say() {
+        for (says, signs) in [
+            ("LTZS k=2 of -1 and 1: 1, 0", [1, 0]),
+            ("LTZS k=3 of 3 and -4, d = a: 0, 1", [0, 1]),
+        ] {
+            let found = masked().into_iter().find(|held| held.says == says);
+            let left = found.expect("the run is in the table").left();
+            assert_eq!(left.revealed[..2], signs, "{says}");
+        }
+    }
+
+    /// After a refusal of LTZS the two constants before it stand, and nothing else.
+    #[test]
+    fn refused_signs_leave_nothing() {
+        let all = runs();
+        let signs = all.iter().filter(|held| held.says.contains("LTZS"));
+        let refused: Vec<_> = signs.filter(|held| number_said(held.says) > 0).collect();
+        assert_eq!(refused.len(), 4);
+        for held in refused {
+            let Left { answer, record, .. } = held.left();
+            assert_eq!(answer.place, 12, "{}", held.says);
+            assert_eq!((answer.masks, answer.triples, answer.openings), (0, 0, 0));
+            assert_eq!(answer.set.iter().filter(|&&set| set).count(), 2);
+            assert!(record.iter().all(|&number| number == FILLING));
+        }
+    }
+
     /// What the commands leave, by the paper's formulas: TRUNC of -3 by 2 is -2, LTZ of -1 is 1, and so on.
     #[test]
     fn revealed_values_are_those_that_the_comments_say() {
