@@ -90,12 +90,11 @@ fn places() -> Vec<Told> {
 /// Input rows, masks and triples for four signs of three bits in field 0.
 const ENOUGH: [u16; 3] = [8, 4, 24];
 
-/// Each command that reads, with each of its registers unset in turn, and with none. There is enough of
-/// everything.
-fn unset() -> Vec<Told> {
+/// Commands that read one register, two, or several.
+fn reading() -> [Command; 16] {
     use Command::*;
     let (d, a, b, k, m, v) = (9, 3, 5, 3, 2, 1);
-    let commands = [
+    [
         Add { d, a, b },
         Sub { d, a, b },
         Scale { d, a, v },
@@ -112,9 +111,15 @@ fn unset() -> Vec<Told> {
         Ltzs { d, a, h: 1, k },
         Ltzs { d, a: 5, h: 4, k },
         Ltzs { d, a: 60, h: 4, k },
-    ];
+    ]
+}
+
+/// Each command that reads, with each of its registers unset in turn, and with none. There is enough of
+/// everything.
+fn unset() -> Vec<Told> {
+    use Command::*;
     let mut all = Vec::new();
-    for command in commands {
+    for command in reading() {
         let reads = command.reads();
         let with = |left_out: Option<u8>| -> Vec<Command> {
             let set = reads.iter().filter(|&&register| Some(register) != left_out);

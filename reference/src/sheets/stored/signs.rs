@@ -17,6 +17,7 @@ pub fn all(generator: &mut Generator) -> Vec<Case> {
     let mut cases = counts(generator);
     cases.extend(stretches(generator));
     cases.extend(ends(generator));
+    cases.extend(widths(generator));
     cases.extend(parties(generator));
     cases.extend(unset(generator));
     cases
@@ -98,6 +99,24 @@ fn ends(generator: &mut Generator) -> Vec<Case> {
     cases
 }
 
+/// k of 1 and one above the largest of every field, which 11 refuses after a LOAD, and the largest.
+fn widths(generator: &mut Generator) -> Vec<Case> {
+    let (d, a, h) = (0, 0, 2);
+    let mut cases = Vec::new();
+    for (number, field) in (0..).zip(&FIELDS) {
+        let largest = field.largest_k as u8;
+        for k in [1, largest, largest + 1] {
+            let commands = [Command::Load { d }, Command::Ltzs { d, a, h, k }];
+            let mut dealer = Dealer::new(generator, number, (3, 1));
+            let mut draft = Draft::deal(&mut dealer, &commands, &[1], &[]);
+            // none is taken
+            draft.triples.clear();
+            cases.push(Case::with_room(draft.to_bytes()));
+        }
+    }
+    cases
+}
+
 /// Every number of parties and every threshold, of which the last t + 1 are present.
 fn parties(generator: &mut Generator) -> Vec<Case> {
     let (d, a, h, k) = (1, 1, 2, 2);
@@ -143,6 +162,17 @@ mod tests {
             let last = u32::from(inputs % 2 == 1);
             assert_eq!(outcome.revealed[..2], [1, last], "{inputs}");
         }
+    }
+
+    /// The largest k is let through to 21.
+    #[test]
+    fn widths_are_refused_at_the_command() {
+        let answers = widths(&mut Generator::new(4)).into_iter().map(|case| {
+            let answer = case.outcome().answer;
+            (answer.number, answer.place)
+        });
+        let expected = [(11, 2), (21, 2), (11, 2)];
+        assert!(answers.eq(expected.into_iter().cycle().take(12)));
     }
 
     #[test]
