@@ -99,7 +99,7 @@ mod tests {
 
     #[test]
     fn the_whole_script_is_read_before_a_command_is_tried() {
-        assert_eq!(forecast(&with(&[(3, 0), (19, 14)])), (9, 8));
+        assert_eq!(forecast(&with(&[(3, 0), (19, 15)])), (9, 8));
         assert_eq!(forecast(&with(&[(3, 0), (21, 12)])), (10, 10));
         assert_eq!(forecast(&with(&[(3, 0), (20, 64)])), (11, 8));
     }

@@ -87,14 +87,14 @@ mod tests {
         assert_eq!(refused(&[1, 0, 6, 0, 0]), (10, 2));
         assert_eq!(refused(&[1, 0, 0, 0]), (10, 3));
         assert_eq!(refused(&[0, 255]), (10, 1));
-        assert_eq!(refused(&[1, 0, 14]), (9, 2));
+        assert_eq!(refused(&[1, 0, 15]), (9, 2));
         assert_eq!(refused(&[1, 0, 1, 64, 0]), (11, 2));
     }
 
     #[test]
     fn the_first_command_at_fault_is_named() {
-        assert_eq!(refused(&[1, 64, 14]), (11, 0));
-        assert_eq!(refused(&[1, 0, 14, 1, 64]), (9, 2));
+        assert_eq!(refused(&[1, 64, 15]), (11, 0));
+        assert_eq!(refused(&[1, 0, 15, 1, 64]), (9, 2));
         assert_eq!(refused(&[1, 64, 6]), (11, 0));
     }
 

@@ -8,6 +8,7 @@ mod fault;
 pub mod gate;
 mod good;
 pub mod held;
+pub mod split;
 pub mod stored;
 pub(crate) mod wrong;
 

@@ -109,6 +109,11 @@ impl<'a> Work<'a> {
         Some(self.minus(&self.constant(0, a.len()), &floor))
     }
 
+    /// LTZS: LTZ of each row in order
+    pub fn signs(&mut self, rows: &[Row], k: u32) -> Option<Vec<Row>> {
+        rows.iter().map(|a| self.sign(a, k)).collect()
+    }
+
     /// OVER
     pub fn over(&mut self, a: &Row, k: u32, v: u64) -> Option<Row> {
         let difference = self.minus(&self.constant(v, a.len()), a);

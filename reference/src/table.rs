@@ -77,7 +77,7 @@ end 0 at 10 inputs 2 masks 0 triples 1 openings 3
     #[test]
     fn refused_input_has_only_the_last_line() {
         let mut sheet = bench::small();
-        sheet[11] = 14;
+        sheet[11] = 15;
         let end = "end 9 at 0 inputs 0 masks 0 triples 0 openings 0\n";
         assert_eq!(lines(&sheet), end);
         let end = "end 1 at 0 inputs 0 masks 0 triples 0 openings 0\n";

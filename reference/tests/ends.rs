@@ -11,8 +11,18 @@ use walk::found_in_stored;
 /// The modulus, the command's name, k, m, and the number worked on, modulo p.
 type Run = (u32, &'static str, u8, u8, u64);
 
-/// What a command with a mask works on.
-fn masked(field: &Field, plain: &Plain, command: &Command) -> Option<Run> {
+/// What a command works on, for each mask that it takes.
+fn masked(field: &Field, plain: &Plain, command: &Command) -> Vec<Run> {
+    match *command {
+        Command::Ltzs { a, h, k, .. } => {
+            let run = |register| (field.modulus, "LTZS", k, k - 1, plain.at(register));
+            (a..a + h).map(run).collect()
+        }
+        _ => with_one_mask(field, plain, command).into_iter().collect(),
+    }
+}
+
+fn with_one_mask(field: &Field, plain: &Plain, command: &Command) -> Option<Run> {
     let p = field.modulus;
     match *command {
         Command::Mod { a, k, m, .. } => Some((p, "MOD", k, m, plain.at(a))),
@@ -36,7 +46,7 @@ fn commands(largest: u8) -> Vec<(&'static str, u8, u8)> {
     let with_m = ["MOD", "TRUNC", "BLOCKS"]
         .into_iter()
         .flat_map(|name| widths.map(|(k, m)| (name, k, m)));
-    let without_m = ["LTZ", "OVER"]
+    let without_m = ["LTZ", "OVER", "LTZS"]
         .into_iter()
         .flat_map(|name| [2, largest].map(|k| (name, k, k - 1)));
     with_m.chain(without_m).collect()

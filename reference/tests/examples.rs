@@ -70,7 +70,10 @@ fn ends_an_import(line: &str) -> bool {
 /// A line of a forecast, as `end 0 at 37` without counts, or what it means in words.
 fn is_of_a_forecast(line: &str) -> bool {
     let is_end = line.starts_with("end ") && line.contains(" at ") && !line.contains(" inputs ");
-    let words = ["The run comes to END. ", "The whole script needs "];
+    let words = [
+        "By header and script the run comes to END. ",
+        "The whole script needs ",
+    ];
     is_end
         || words.iter().any(|words| line.starts_with(words))
         || line.contains(" are left.")

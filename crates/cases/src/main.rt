@@ -10,7 +10,7 @@ use machine::run;
 use outcome::outcome;
 
 fn main() {
-    let mut input = [0u8; 600000];
+    let mut input = [0u8; 800000];
     let got = io::read_full(0, &mut input);
     run_cases(&input[..got]);
 }

@@ -40,21 +40,21 @@ forecastCases =
     -- 1 before the rest
     ∷ forecastOf (4 ∷ 8 ∷ 1 ∷ 65 ∷ 0 ∷ 0 ∷ 0 ∷ 0 ∷ 0 ∷ 1 ∷ []) 1 0
     -- 2 before the rest
-    ∷ forecastOf (4 ∷ 8 ∷ 1 ∷ 65 ∷ 0 ∷ 0 ∷ 0 ∷ 0 ∷ 0 ∷ 1 ∷ 0 ∷ 14 ∷ []) 2 0
+    ∷ forecastOf (4 ∷ 8 ∷ 1 ∷ 65 ∷ 0 ∷ 0 ∷ 0 ∷ 0 ∷ 0 ∷ 1 ∷ 0 ∷ 15 ∷ []) 2 0
     -- 3 before the rest
-    ∷ forecastOf (0 ∷ 8 ∷ 1 ∷ 65 ∷ 0 ∷ 0 ∷ 0 ∷ 0 ∷ 0 ∷ 1 ∷ 0 ∷ 14 ∷ []) 3 0
+    ∷ forecastOf (0 ∷ 8 ∷ 1 ∷ 65 ∷ 0 ∷ 0 ∷ 0 ∷ 0 ∷ 0 ∷ 1 ∷ 0 ∷ 15 ∷ []) 3 0
     -- 4 before 9
-    ∷ forecastOf (0 ∷ 3 ∷ 1 ∷ 65 ∷ 0 ∷ 0 ∷ 0 ∷ 0 ∷ 0 ∷ 1 ∷ 0 ∷ 14 ∷ []) 4 0
+    ∷ forecastOf (0 ∷ 3 ∷ 1 ∷ 65 ∷ 0 ∷ 0 ∷ 0 ∷ 0 ∷ 0 ∷ 1 ∷ 0 ∷ 15 ∷ []) 4 0
     -- 2 before 4: a byte too many in field 4
     ∷ forecastOf (4 ∷ 3 ∷ 1 ∷ 0 ∷ 0 ∷ 0 ∷ 0 ∷ 0 ∷ 0 ∷ 1 ∷ 0 ∷ 0 ∷ 0 ∷ []) 2 0
     -- 3 before 4: a byte too many for eight parties
     ∷ forecastOf (0 ∷ 8 ∷ 1 ∷ 0 ∷ 0 ∷ 0 ∷ 0 ∷ 0 ∷ 0 ∷ 1 ∷ 0 ∷ 0 ∷ 0 ∷ []) 3 0
     -- 4 before 9: 65 inputs, and a byte too many after no command
-    ∷ forecastOf (0 ∷ 3 ∷ 1 ∷ 65 ∷ 0 ∷ 0 ∷ 0 ∷ 0 ∷ 0 ∷ 1 ∷ 0 ∷ 14 ∷ 0 ∷ []) 4 0
+    ∷ forecastOf (0 ∷ 3 ∷ 1 ∷ 65 ∷ 0 ∷ 0 ∷ 0 ∷ 0 ∷ 0 ∷ 1 ∷ 0 ∷ 15 ∷ 0 ∷ []) 4 0
     -- 10: an empty script
     ∷ forecastOf (0 ∷ 3 ∷ 1 ∷ 0 ∷ 0 ∷ 0 ∷ 0 ∷ 0 ∷ 0 ∷ 0 ∷ 0 ∷ []) 10 0
     -- 9 before 21: a byte that is no command
-    ∷ forecastOf (0 ∷ 3 ∷ 1 ∷ 0 ∷ 0 ∷ 0 ∷ 0 ∷ 0 ∷ 0 ∷ 4 ∷ 0 ∷ 12 ∷ 0 ∷ 14 ∷ 0 ∷ []) 9 2
+    ∷ forecastOf (0 ∷ 3 ∷ 1 ∷ 0 ∷ 0 ∷ 0 ∷ 0 ∷ 0 ∷ 0 ∷ 4 ∷ 0 ∷ 12 ∷ 0 ∷ 15 ∷ 0 ∷ []) 9 2
     -- 10 before 21: operands cut off
     ∷ forecastOf (0 ∷ 3 ∷ 1 ∷ 0 ∷ 0 ∷ 0 ∷ 0 ∷ 0 ∷ 0 ∷ 5 ∷ 0 ∷ 12 ∷ 0 ∷ 6 ∷ 0 ∷ 0 ∷ []) 10 2
     -- 10 before 21: no END, the place is the script length
@@ -65,6 +65,8 @@ forecastCases =
     ∷ forecastOf (0 ∷ 3 ∷ 1 ∷ 0 ∷ 0 ∷ 0 ∷ 0 ∷ 0 ∷ 0 ∷ 5 ∷ 0 ∷ 12 ∷ 0 ∷ 1 ∷ 64 ∷ 0 ∷ []) 11 2
     -- 11 before 21: LTZ with k = 4 in field 0
     ∷ forecastOf (0 ∷ 3 ∷ 1 ∷ 0 ∷ 0 ∷ 0 ∷ 0 ∷ 0 ∷ 0 ∷ 5 ∷ 0 ∷ 9 ∷ 0 ∷ 0 ∷ 4 ∷ 0 ∷ []) 11 0
+    -- 11 before 21: LTZS, register 1 is in both stretches
+    ∷ forecastOf (0 ∷ 3 ∷ 1 ∷ 0 ∷ 0 ∷ 0 ∷ 0 ∷ 0 ∷ 0 ∷ 6 ∷ 0 ∷ 14 ∷ 0 ∷ 1 ∷ 2 ∷ 2 ∷ 0 ∷ []) 11 0
     -- 11 before 22: MOD with m = k
     ∷ forecastOf (0 ∷ 3 ∷ 1 ∷ 0 ∷ 0 ∷ 0 ∷ 0 ∷ 0 ∷ 0 ∷ 8 ∷ 0 ∷ 1 ∷ 0 ∷ 7 ∷ 0 ∷ 0 ∷ 2 ∷ 2 ∷ 0 ∷ []) 11 2
     -- a constant is set, and REVEAL takes nothing
@@ -101,6 +103,16 @@ forecastCases =
     ∷ forecastOf (0 ∷ 3 ∷ 1 ∷ 1 ∷ 0 ∷ 0 ∷ 0 ∷ 2 ∷ 0 ∷ 11 ∷ 0 ∷ 1 ∷ 0 ∷ 6 ∷ 0 ∷ 0 ∷ 0 ∷ 6 ∷ 0 ∷ 0 ∷ 0 ∷ 0 ∷ []) 0 10
     -- BITLT with w = 1 takes no triple
     ∷ forecastOf (0 ∷ 3 ∷ 1 ∷ 1 ∷ 0 ∷ 0 ∷ 0 ∷ 0 ∷ 0 ∷ 11 ∷ 0 ∷ 1 ∷ 0 ∷ 13 ∷ 0 ∷ 0 ∷ 1 ∷ 1 ∷ 0 ∷ 0 ∷ 0 ∷ 0 ∷ []) 0 10
+    -- 21 before 23: the middle register of LTZS is unset
+    ∷ forecastOf (0 ∷ 3 ∷ 1 ∷ 2 ∷ 0 ∷ 0 ∷ 0 ∷ 0 ∷ 0 ∷ 10 ∷ 0 ∷ 1 ∷ 0 ∷ 1 ∷ 2 ∷ 14 ∷ 5 ∷ 0 ∷ 3 ∷ 2 ∷ 0 ∷ []) 21 4
+    -- 23: LTZS of two registers on one mask
+    ∷ forecastOf (0 ∷ 3 ∷ 1 ∷ 2 ∷ 0 ∷ 1 ∷ 0 ∷ 8 ∷ 0 ∷ 10 ∷ 0 ∷ 1 ∷ 0 ∷ 1 ∷ 1 ∷ 14 ∷ 5 ∷ 0 ∷ 2 ∷ 2 ∷ 0 ∷ []) 23 4
+    -- 23 before 24: LTZS on a mask and 7 triples
+    ∷ forecastOf (0 ∷ 3 ∷ 1 ∷ 2 ∷ 0 ∷ 1 ∷ 0 ∷ 7 ∷ 0 ∷ 10 ∷ 0 ∷ 1 ∷ 0 ∷ 1 ∷ 1 ∷ 14 ∷ 5 ∷ 0 ∷ 2 ∷ 2 ∷ 0 ∷ []) 23 4
+    -- LTZS sets its last register
+    ∷ forecastOf (0 ∷ 3 ∷ 1 ∷ 2 ∷ 0 ∷ 2 ∷ 0 ∷ 8 ∷ 0 ∷ 12 ∷ 0 ∷ 1 ∷ 0 ∷ 1 ∷ 1 ∷ 14 ∷ 5 ∷ 0 ∷ 2 ∷ 2 ∷ 12 ∷ 6 ∷ 0 ∷ []) 0 11
+    -- 21: LTZS sets no more
+    ∷ forecastOf (0 ∷ 3 ∷ 1 ∷ 2 ∷ 0 ∷ 2 ∷ 0 ∷ 8 ∷ 0 ∷ 12 ∷ 0 ∷ 1 ∷ 0 ∷ 1 ∷ 1 ∷ 14 ∷ 5 ∷ 0 ∷ 2 ∷ 2 ∷ 12 ∷ 7 ∷ 0 ∷ []) 21 9
     -- 64 additions, and END after 255
     ∷ forecastOf (0 ∷ 3 ∷ 1 ∷ 1 ∷ 0 ∷ 0 ∷ 0 ∷ 0 ∷ 0 ∷ 3 ∷ 1 ∷ 1 ∷ (replicate 257 3 ++ 0 ∷ [])) 0 258
     -- 24: a product after 255 without a triple
@@ -129,6 +141,10 @@ forecastCases =
     ∷ forecastOf (0 ∷ 3 ∷ 1 ∷ 1 ∷ 0 ∷ 1 ∷ 0 ∷ 4 ∷ 0 ∷ 8 ∷ 0 ∷ 1 ∷ 0 ∷ 11 ∷ 0 ∷ 0 ∷ 3 ∷ 1 ∷ 0 ∷ []) 0 7
     -- 24: BLOCKS m=1 with a triple less
     ∷ forecastOf (0 ∷ 3 ∷ 1 ∷ 1 ∷ 0 ∷ 1 ∷ 0 ∷ 3 ∷ 0 ∷ 8 ∷ 0 ∷ 1 ∷ 0 ∷ 11 ∷ 0 ∷ 0 ∷ 3 ∷ 1 ∷ 0 ∷ []) 24 2
+    -- LTZS h=2 k=3 takes 12 triples
+    ∷ forecastOf (0 ∷ 3 ∷ 1 ∷ 2 ∷ 0 ∷ 2 ∷ 0 ∷ 12 ∷ 0 ∷ 10 ∷ 0 ∷ 1 ∷ 0 ∷ 1 ∷ 1 ∷ 14 ∷ 0 ∷ 0 ∷ 2 ∷ 3 ∷ 0 ∷ []) 0 9
+    -- 24: LTZS h=2 k=3 with a triple less
+    ∷ forecastOf (0 ∷ 3 ∷ 1 ∷ 2 ∷ 0 ∷ 2 ∷ 0 ∷ 11 ∷ 0 ∷ 10 ∷ 0 ∷ 1 ∷ 0 ∷ 1 ∷ 1 ∷ 14 ∷ 0 ∷ 0 ∷ 2 ∷ 3 ∷ 0 ∷ []) 24 4
     -- TRUNC m=3 in field 1 takes 12 triples
     ∷ forecastOf (1 ∷ 3 ∷ 1 ∷ 1 ∷ 0 ∷ 1 ∷ 0 ∷ 12 ∷ 0 ∷ 8 ∷ 0 ∷ 1 ∷ 0 ∷ 8 ∷ 0 ∷ 0 ∷ 7 ∷ 3 ∷ 0 ∷ []) 0 7
     -- 24: TRUNC m=3 in field 1 with a triple less

@@ -184,7 +184,7 @@ presentCases =
     -- 12 before 5
     ∷ stoppedBy 2 (0 ∷ 3 ∷ 1 ∷ 1 ∷ 0 ∷ 0 ∷ 0 ∷ 0 ∷ 0 ∷ 5 ∷ 0 ∷ []) (1 ∷ 0 ∷ 12 ∷ 0 ∷ 0 ∷ []) (13 ∷ 13 ∷ 13 ∷ []) 12 0
     -- 12 before 9
-    ∷ stoppedBy 11 (0 ∷ 3 ∷ 1 ∷ 0 ∷ 0 ∷ 0 ∷ 0 ∷ 0 ∷ 0 ∷ 1 ∷ 0 ∷ []) (14 ∷ []) [] 12 0
+    ∷ stoppedBy 11 (0 ∷ 3 ∷ 1 ∷ 0 ∷ 0 ∷ 0 ∷ 0 ∷ 0 ∷ 0 ∷ 1 ∷ 0 ∷ []) (15 ∷ []) [] 12 0
     -- 4: the absent party's share is missing
     ∷ stoppedBy 3 (0 ∷ 3 ∷ 1 ∷ 1 ∷ 0 ∷ 0 ∷ 0 ∷ 0 ∷ 0 ∷ 5 ∷ 0 ∷ []) (1 ∷ 0 ∷ 12 ∷ 0 ∷ 0 ∷ []) (7 ∷ 9 ∷ []) 4 0
     -- 5: the absent party's share

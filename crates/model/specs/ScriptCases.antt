@@ -7,14 +7,14 @@ use Rattle.model.specs.CaseForms.{Case, scripted}
 
 unfoldable pub scriptCases : List Case
 scriptCases =
-    -- 9: byte 0E
-    scripted 0 (14 ∷ 0 ∷ []) 9 0
+    -- 9: byte 0F
+    scripted 0 (15 ∷ 0 ∷ []) 9 0
     -- 9: its place is the command's offset
-    ∷ scripted 0 (1 ∷ 0 ∷ 14 ∷ 0 ∷ []) 9 2
+    ∷ scripted 0 (1 ∷ 0 ∷ 15 ∷ 0 ∷ []) 9 2
     -- 9: byte FF
     ∷ scripted 0 (1 ∷ 0 ∷ 255 ∷ 0 ∷ []) 9 2
     -- 9 before 10: no END either
-    ∷ scripted 0 (1 ∷ 0 ∷ 14 ∷ []) 9 2
+    ∷ scripted 0 (1 ∷ 0 ∷ 15 ∷ []) 9 2
     -- 10: an empty script
     ∷ scripted 0 [] 10 0
     -- 10: no END: the place is the script length
@@ -24,7 +24,7 @@ scriptCases =
     -- 10: END twice
     ∷ scripted 0 (0 ∷ 0 ∷ []) 10 1
     -- 10: what follows END is not read
-    ∷ scripted 0 (1 ∷ 0 ∷ 0 ∷ 14 ∷ []) 10 3
+    ∷ scripted 0 (1 ∷ 0 ∷ 0 ∷ 15 ∷ []) 10 3
     -- 10: nor is it tried for 11
     ∷ scripted 0 (1 ∷ 0 ∷ 0 ∷ 1 ∷ 64 ∷ 0 ∷ []) 10 3
     -- 22: 100 times LOAD 1, and END: a longer script is read whole
@@ -43,6 +43,7 @@ scriptCases =
     ∷ scripted 0 (1 ∷ 0 ∷ 11 ∷ 1 ∷ 2 ∷ 3 ∷ []) 10 2
     ∷ scripted 0 (1 ∷ 0 ∷ 12 ∷ []) 10 2
     ∷ scripted 0 (1 ∷ 0 ∷ 13 ∷ 1 ∷ 3 ∷ 3 ∷ 4 ∷ 0 ∷ 0 ∷ []) 10 2
+    ∷ scripted 0 (1 ∷ 0 ∷ 14 ∷ 1 ∷ 2 ∷ 1 ∷ []) 10 2
     -- 10: no END after the command
     ∷ scripted 0 (1 ∷ 0 ∷ 1 ∷ 1 ∷ []) 10 4
     ∷ scripted 0 (1 ∷ 0 ∷ 2 ∷ 1 ∷ 4 ∷ 0 ∷ 0 ∷ 0 ∷ []) 10 8
@@ -57,12 +58,13 @@ scriptCases =
     ∷ scripted 0 (1 ∷ 0 ∷ 11 ∷ 1 ∷ 2 ∷ 3 ∷ 1 ∷ []) 10 7
     ∷ scripted 0 (1 ∷ 0 ∷ 12 ∷ 2 ∷ []) 10 4
     ∷ scripted 0 (1 ∷ 0 ∷ 13 ∷ 1 ∷ 3 ∷ 3 ∷ 4 ∷ 0 ∷ 0 ∷ 0 ∷ []) 10 10
+    ∷ scripted 0 (1 ∷ 0 ∷ 14 ∷ 1 ∷ 2 ∷ 1 ∷ 3 ∷ []) 10 7
     -- 10 before 11: ADD 64 0, cut off
     ∷ scripted 0 (1 ∷ 0 ∷ 3 ∷ 64 ∷ 0 ∷ []) 10 2
     -- 11 before 9, command by command
-    ∷ scripted 0 (1 ∷ 0 ∷ 1 ∷ 64 ∷ 14 ∷ 0 ∷ []) 11 2
+    ∷ scripted 0 (1 ∷ 0 ∷ 1 ∷ 64 ∷ 15 ∷ 0 ∷ []) 11 2
     -- 9 before 11, command by command
-    ∷ scripted 0 (1 ∷ 0 ∷ 14 ∷ 1 ∷ 64 ∷ 0 ∷ []) 9 2
+    ∷ scripted 0 (1 ∷ 0 ∷ 15 ∷ 1 ∷ 64 ∷ 0 ∷ []) 9 2
     -- 11 before a missing END
     ∷ scripted 0 (1 ∷ 0 ∷ 1 ∷ 64 ∷ []) 11 2
     -- 11 before bytes after END
@@ -192,4 +194,32 @@ scriptCases =
     ∷ scripted 0 (1 ∷ 0 ∷ 13 ∷ 0 ∷ 0 ∷ 2 ∷ 4 ∷ 0 ∷ 0 ∷ 0 ∷ 0 ∷ []) 11 2
     -- 21: v is not held to p
     ∷ scripted 0 (13 ∷ 0 ∷ 0 ∷ 4 ∷ 15 ∷ 0 ∷ 0 ∷ 0 ∷ 0 ∷ []) 21 0
+    -- 21: LTZS h = 1, d = a
+    ∷ scripted 0 (14 ∷ 63 ∷ 63 ∷ 1 ∷ 2 ∷ 0 ∷ []) 21 0
+    -- 21: LTZS h = 2, d = a
+    ∷ scripted 0 (14 ∷ 5 ∷ 5 ∷ 2 ∷ 3 ∷ 0 ∷ []) 21 0
+    -- 21: LTZS h = 16, the registers read to 63
+    ∷ scripted 0 (14 ∷ 0 ∷ 48 ∷ 16 ∷ 2 ∷ 0 ∷ []) 21 0
+    -- 21: LTZS h = 16, the registers left to 63
+    ∷ scripted 0 (14 ∷ 48 ∷ 0 ∷ 16 ∷ 3 ∷ 0 ∷ []) 21 0
+    -- 21: LTZS, d + h is a
+    ∷ scripted 0 (14 ∷ 0 ∷ 2 ∷ 2 ∷ 2 ∷ 0 ∷ []) 21 0
+    -- 21: LTZS, a + h is d
+    ∷ scripted 0 (14 ∷ 2 ∷ 0 ∷ 2 ∷ 2 ∷ 0 ∷ []) 21 0
+    -- 11: LTZS, h is 0
+    ∷ scripted 0 (1 ∷ 0 ∷ 14 ∷ 0 ∷ 0 ∷ 0 ∷ 2 ∷ 0 ∷ []) 11 2
+    -- 11: LTZS, h is 17
+    ∷ scripted 0 (1 ∷ 0 ∷ 14 ∷ 0 ∷ 32 ∷ 17 ∷ 2 ∷ 0 ∷ []) 11 2
+    -- 11: LTZS, a + h is 65
+    ∷ scripted 0 (1 ∷ 0 ∷ 14 ∷ 0 ∷ 49 ∷ 16 ∷ 2 ∷ 0 ∷ []) 11 2
+    -- 11: LTZS, d + h is 65
+    ∷ scripted 0 (1 ∷ 0 ∷ 14 ∷ 49 ∷ 0 ∷ 16 ∷ 2 ∷ 0 ∷ []) 11 2
+    -- 11: LTZS, d + h is a + 1
+    ∷ scripted 0 (1 ∷ 0 ∷ 14 ∷ 0 ∷ 1 ∷ 2 ∷ 2 ∷ 0 ∷ []) 11 2
+    -- 11: LTZS, a + h is d + 1
+    ∷ scripted 0 (1 ∷ 0 ∷ 14 ∷ 1 ∷ 0 ∷ 2 ∷ 2 ∷ 0 ∷ []) 11 2
+    -- 11: LTZS, k is 1
+    ∷ scripted 0 (1 ∷ 0 ∷ 14 ∷ 0 ∷ 0 ∷ 2 ∷ 1 ∷ 0 ∷ []) 11 2
+    -- 11: LTZS, k is 4
+    ∷ scripted 0 (1 ∷ 0 ∷ 14 ∷ 0 ∷ 0 ∷ 2 ∷ 4 ∷ 0 ∷ []) 11 2
     ∷ []

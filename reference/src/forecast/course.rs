@@ -67,14 +67,14 @@ impl Stop {
         reads.find(|&register| !self.set[usize::from(register)])
     }
 
-    /// Takes what the line's command needs, and sets its register.
+    /// Takes what the line's command needs, and sets its registers.
     fn finish(&mut self, field: &Field) {
         let needed = needs(&self.line.command, field);
         for (left, needed) in self.left.iter_mut().zip(needed) {
             *left -= needed;
         }
-        if let Some(d) = self.line.command.target() {
-            self.set[usize::from(d)] = true;
+        for register in self.line.command.writes() {
+            self.set[usize::from(register)] = true;
         }
     }
 }
@@ -122,10 +122,12 @@ mod tests {
         assert_eq!(needed(&[]), Some([0; 3]));
     }
 
-    /// A command of at least two bytes takes at most one row, one mask and 87 triples.
+    /// A command of at least two bytes takes at most one row, and one of five bytes 16 masks and 16 times 87
+    /// triples. No other takes more for its bytes.
     #[test]
     fn no_script_takes_what_is_ample() {
-        assert!(AMPLE.iter().all(|&count| count > LONGEST_SCRIPT / 2 * 87));
+        let most = LONGEST_SCRIPT.div_ceil(5) * 16 * 87;
+        assert!(AMPLE.iter().all(|&count| count > most));
     }
 
     #[test]
@@ -138,5 +140,21 @@ mod tests {
         let commands = [set(5), set(7), Command::Bitlt { d, b, w, v }];
         let stop = Stop::with(AMPLE, &lines(&commands), &FIELDS[3]);
         assert_eq!((stop.number, stop.unset()), (21, Some(6)));
+        let (a, h, k) = (5, 4, 2);
+        let commands = [set(5), set(6), set(8), Command::Ltzs { d: 5, a, h, k }];
+        let stop = Stop::with(AMPLE, &lines(&commands), &FIELDS[3]);
+        assert_eq!((stop.number, stop.unset()), (21, Some(7)));
+    }
+
+    #[test]
+    fn every_register_that_signs_are_left_in_is_set() {
+        let (d, a, h, k) = (40, 0, 2, 2);
+        let set = |d| Command::Const { d, v: 1 };
+        let signs = [set(0), set(1), Command::Ltzs { d, a, h, k }];
+        for (register, number) in [(39, 21), (40, 0), (41, 0), (42, 21)] {
+            let commands = [&signs[..], &[Command::Reveal { a: register }]].concat();
+            let stop = Stop::with(AMPLE, &lines(&commands), &FIELDS[3]);
+            assert_eq!(stop.number, number, "{register}");
+        }
     }
 }

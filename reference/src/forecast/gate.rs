@@ -112,7 +112,7 @@ mod tests {
                 "59724-bytes",
                 "The input has 59724 bytes or more: header and script have 12, and a whole sheet has 192.",
             ),
-            ("no-command", "The byte at 2 is 14, and the last command is 13."),
+            ("no-command", "The byte at 2 is 15, and the last command is 14."),
             ("empty-script", "The script has 0 bytes and no END."),
             ("no-end", "The script has 2 bytes and no END."),
             ("cut-off-mul", "MUL at 2 is cut off by the script's end."),
@@ -193,8 +193,66 @@ mod tests {
                 "1 input row, 6 masks and 513 triples, more than a header may count.",
             ),
         ] {
-            let all = format!("The whole script needs {last}");
-            assert_eq!(said(name), format!("{first}\n{all}\n"), "{name}");
+            holds_to_need(name, first, last);
+        }
+    }
+
+    /// The two sentences about what is short.
+    fn holds_to_need(name: &str, first: &str, last: &str) {
+        let all = format!("The whole script needs {last}");
+        assert_eq!(said(name), format!("{first}\n{all}\n"), "{name}");
+    }
+
+    #[test]
+    fn the_unset_registers_of_ltzs_are_printed() {
+        for (name, sentence) in [
+            (
+                "unset-ltzs",
+                "LTZS at 6 reads register 6, which no command before it sets.",
+            ),
+            (
+                "unset-first-of-16",
+                "LTZS at 30 reads register 48, which no command before it sets.",
+            ),
+            (
+                "unset-last-of-16",
+                "LTZS at 30 reads register 63, which no command before it sets.",
+            ),
+        ] {
+            assert_eq!(said(name), format!("{sentence}\n"), "{name}");
+        }
+    }
+
+    #[test]
+    fn what_is_short_for_ltzs_is_printed() {
+        for (name, first, last) in [
+            (
+                "no-mask-ltzs",
+                "LTZS at 4 needs 2 masks and 8 triples: 1 of 1 masks and 8 of 8 triples are left.",
+                "2 input rows, 2 masks and 8 triples.",
+            ),
+            (
+                "short-ltzs",
+                "LTZS at 4 needs 2 masks and 8 triples: 2 of 2 masks and 7 of 7 triples are left.",
+                "2 input rows, 2 masks and 8 triples.",
+            ),
+            (
+                "no-mask-one-sign",
+                "LTZS at 2 needs 1 mask and 4 triples: 0 of 0 masks and 4 of 4 triples are left.",
+                "1 input row, 1 mask and 4 triples.",
+            ),
+            (
+                "short-16-signs",
+                "LTZS at 32 needs 16 masks and 64 triples: 16 of 16 masks and 63 of 63 triples are left.",
+                "16 input rows, 16 masks and 64 triples.",
+            ),
+            (
+                "needs-275616-triples",
+                "LTZS at 32 needs 16 masks and 1392 triples: 16 of 16 masks and 512 of 512 triples are left.",
+                "16 input rows, 3168 masks and 275616 triples, more than a header may count.",
+            ),
+        ] {
+            holds_to_need(name, first, last);
         }
     }
 
@@ -213,7 +271,7 @@ mod tests {
     /// triples.
     #[test]
     fn every_command_is_named_with_every_number_that_it_can_have() {
-        let masked = ["MOD", "TRUNC", "LTZ", "OVER", "BLOCKS"];
+        let masked = ["MOD", "TRUNC", "LTZ", "OVER", "BLOCKS", "LTZS"];
         let reading = ["ADD", "SUB", "SCALE", "MUL", "REVEAL", "BITLT"];
         let mut expected: Vec<(u32, &str)> = vec![(22, "LOAD"), (24, "MUL"), (24, "BITLT")];
         expected.extend(NAMES[1..].iter().flat_map(|&name| [(10, name), (11, name)]));

@@ -66,7 +66,7 @@ mod tests {
     fn no_two_comments_are_the_same() {
         let mut comments: Vec<_> = all().into_iter().map(|held| held.says).collect();
         let count = comments.len();
-        assert!((40..=70).contains(&count), "{count}");
+        assert!((40..=80).contains(&count), "{count}");
         comments.sort();
         comments.dedup();
         assert_eq!(comments.len(), count);
@@ -100,6 +100,10 @@ mod tests {
             ("24: the second of two products on one triple", 6),
             ("LTZ k=3 takes 6 triples, since m is 2", 6),
             ("24: LTZ k=3 with a triple less", 2),
+            ("21 before 23: the middle register of LTZS is unset", 4),
+            ("23: LTZS of two registers on one mask", 4),
+            ("LTZS sets its last register", 11),
+            ("24: LTZS h=2 k=3 with a triple less", 4),
             ("64 additions, and END after 255", 258),
             ("24: a product after 255 without a triple", 258),
         ] {

@@ -265,8 +265,8 @@ mod tests {
     fn a_script_is_told_with_its_first_fault() {
         for (script, expected) in [
             (
-                &[1, 0, 14, 0][..],
-                "end 9 at 2\nThe byte at 2 is 14, and the last command is 13.\n",
+                &[1, 0, 15, 0][..],
+                "end 9 at 2\nThe byte at 2 is 15, and the last command is 14.\n",
             ),
             (&[], "end 10 at 0\nThe script has 0 bytes and no END.\n"),
             (&[1, 0], "end 10 at 2\nThe script has 2 bytes and no END.\n"),
@@ -278,7 +278,7 @@ mod tests {
                 &[1, 0, 0, 6, 0],
                 "end 10 at 3\nBytes follow END, from 3 on.\n",
             ),
-            (&[0, 14], "end 10 at 1\nBytes follow END, from 1 on.\n"),
+            (&[0, 15], "end 10 at 1\nBytes follow END, from 1 on.\n"),
             (
                 &[13, 0, 63, 2, 0, 0, 0, 0, 0],
                 "end 11 at 0\nBITLT at 0 has an operand out of range.\n",

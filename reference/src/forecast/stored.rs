@@ -80,7 +80,7 @@ mod tests {
 
     #[test]
     fn cases_and_answers_are_within_bounds() {
-        STORED.is_within(1_000..=3_000, 50_000);
+        STORED.is_within(1_000..=3_500, 50_000);
     }
 
     #[test]

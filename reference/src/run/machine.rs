@@ -82,19 +82,31 @@ impl<'a> Machine<'a> {
 
     /// Works a command that the state allows.
     fn perform(&mut self, command: &Command) {
-        if let Command::Reveal { a } = *command {
-            self.reveal(a);
-        }
-        if let Some(d) = command.target() {
-            self.registers[usize::from(d)] = self.left(command);
+        match *command {
+            Command::Reveal { a } => self.reveal(a),
+            Command::Ltzs { a, h, k, .. } => {
+                let signs = self.work.signs(&self.rows(a, h), k.into());
+                self.write(command, signs.into_iter().flatten());
+            }
+            _ => {
+                let left = self.left(command);
+                self.write(command, left);
+            }
         }
         self.record_opened();
     }
 
-    /// The row that the command leaves in its register.
+    /// Writes what was left, a row to each register of the command.
+    fn write(&mut self, command: &Command, rows: impl IntoIterator<Item = Row>) {
+        for (register, row) in command.writes().zip(rows) {
+            self.registers[usize::from(register)] = Some(row);
+        }
+    }
+
+    /// The row that a command leaves which writes one register.
     fn left(&mut self, command: &Command) -> Option<Row> {
         match *command {
-            Command::End | Command::Reveal { .. } => None,
+            Command::End | Command::Reveal { .. } | Command::Ltzs { .. } => None,
             Command::Load { .. } => Some(self.load()),
             Command::Const { v, .. } => Some(self.work.constant(v.into(), self.sheet.parties)),
             Command::Add { a, b, .. } => Some(self.work.plus(&self.row(a), &self.row(b))),
@@ -106,16 +118,19 @@ impl<'a> Machine<'a> {
             Command::Ltz { a, k, .. } => self.work.sign(&self.row(a), k.into()),
             Command::Over { a, k, v, .. } => self.work.over(&self.row(a), k.into(), v.into()),
             Command::Blocks { a, k, m, .. } => self.work.blocks(&self.row(a), k.into(), m.into()),
-            Command::Bitlt { b, w, v, .. } => {
-                let bits: Vec<Row> = (b..b + w).map(|register| self.row(register)).collect();
-                self.work.compare(v.into(), &bits)
-            }
+            Command::Bitlt { b, w, v, .. } => self.work.compare(v.into(), &self.rows(b, w)),
         }
     }
 
     /// A register that was found set.
     fn row(&self, register: u8) -> Row {
         self.registers[usize::from(register)].expect("a register that is read is set")
+    }
+
+    /// So many registers from the first on.
+    fn rows(&self, first: u8, count: u8) -> Vec<Row> {
+        let registers = first..first + count;
+        registers.map(|register| self.row(register)).collect()
     }
 
     fn load(&mut self) -> Row {

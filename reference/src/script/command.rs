@@ -1,5 +1,7 @@
 //! The commands, their bytes, what they read and what they spend.
 
+use std::ops::Range;
+
 use crate::field::Field;
 
 #[derive(Clone, Copy, Debug, PartialEq)]
@@ -18,15 +20,16 @@ pub enum Command {
     Blocks { d: u8, a: u8, k: u8, m: u8 },
     Reveal { a: u8 },
     Bitlt { d: u8, b: u8, w: u8, v: u32 },
+    Ltzs { d: u8, a: u8, h: u8, k: u8 },
 }
 
 /// The number of operand bytes of each command, in the order of the command bytes.
-pub const OPERANDS: [usize; 14] = [0, 1, 5, 3, 3, 6, 3, 4, 4, 3, 7, 4, 1, 7];
+pub const OPERANDS: [usize; 15] = [0, 1, 5, 3, 3, 6, 3, 4, 4, 3, 7, 4, 1, 7, 4];
 
-/// The paper's names, in the order of the command bytes.
-pub const NAMES: [&str; 14] = [
+/// The names of paper and requests, in the order of the command bytes.
+pub const NAMES: [&str; 15] = [
     "END", "LOAD", "CONST", "ADD", "SUB", "SCALE", "MUL", "MOD", "TRUNC", "LTZ", "OVER", "BLOCKS",
-    "REVEAL", "BITLT",
+    "REVEAL", "BITLT", "LTZS",
 ];
 
 /// What a finished command has taken.
@@ -42,6 +45,16 @@ impl Cost {
     /// A mask is opened with once, a triple twice.
     pub fn openings(&self) -> usize {
         self.masks + 2 * self.triples + self.revealed
+    }
+
+    /// What so many commands of this cost take together.
+    fn times(self, count: usize) -> Cost {
+        Cost {
+            inputs: count * self.inputs,
+            masks: count * self.masks,
+            triples: count * self.triples,
+            revealed: count * self.revealed,
+        }
     }
 }
 
@@ -73,6 +86,7 @@ impl Command {
                 w,
                 v: word(v),
             },
+            (0x0E, &[d, a, h, k]) => Command::Ltzs { d, a, h, k },
             _ => unreachable!("a command byte has its number of operands"),
         }
     }
@@ -93,13 +107,14 @@ impl Command {
             Command::Blocks { d, a, k, m } => vec![0x0B, d, a, k, m],
             Command::Reveal { a } => vec![0x0C, a],
             Command::Bitlt { d, b, w, v } => with_word(&[0x0D, d, b, w], v),
+            Command::Ltzs { d, a, h, k } => vec![0x0E, d, a, h, k],
         }
     }
 
-    /// The register that the command leaves a secret in.
-    pub fn target(&self) -> Option<u8> {
+    /// The registers that the command leaves secrets in, one for each.
+    pub fn writes(&self) -> Range<u8> {
         match *self {
-            Command::End | Command::Reveal { .. } => None,
+            Command::End | Command::Reveal { .. } => 0..0,
             Command::Load { d }
             | Command::Const { d, .. }
             | Command::Add { d, .. }
@@ -111,11 +126,12 @@ impl Command {
             | Command::Ltz { d, .. }
             | Command::Over { d, .. }
             | Command::Blocks { d, .. }
-            | Command::Bitlt { d, .. } => Some(d),
+            | Command::Bitlt { d, .. } => d..d + 1,
+            Command::Ltzs { d, h, .. } => d..d + h,
         }
     }
 
-    /// The registers that the command reads.
+    /// The registers that the command reads, in the order of its operands.
     pub fn reads(&self) -> Vec<u8> {
         match *self {
             Command::End | Command::Load { .. } | Command::Const { .. } => vec![],
@@ -130,6 +146,7 @@ impl Command {
             | Command::Blocks { a, .. }
             | Command::Reveal { a } => vec![a],
             Command::Bitlt { b, w, .. } => (b..b + w).collect(),
+            Command::Ltzs { a, h, .. } => (a..a + h).collect(),
         }
     }
 
@@ -143,6 +160,7 @@ impl Command {
                 return masked(field, m);
             }
             Command::Ltz { k, .. } | Command::Over { k, .. } => return masked(field, k - 1),
+            Command::Ltzs { h, k, .. } => return masked(field, k - 1).times(h.into()),
             Command::Reveal { .. } => cost.revealed = 1,
             _ => {}
         }
@@ -188,9 +206,13 @@ mod tests {
     }
 
     #[test]
-    fn costs_are_those_of_the_paper() {
+    fn costs_are_those_of_paper_and_requests() {
         let ltz = Command::Ltz { d: 0, a: 0, k: 15 }.cost(&FIELDS[2]);
         assert_eq!((ltz.masks, ltz.triples, ltz.openings()), (1, 42, 85));
+        let (d, a, h, k) = (32, 16, 12, 15);
+        let ltzs = Command::Ltzs { d, a, h, k }.cost(&FIELDS[2]);
+        assert_eq!((ltzs.masks, ltzs.triples, ltzs.openings()), (12, 504, 1020));
+        assert_eq!((ltzs.inputs, ltzs.revealed), (0, 0));
         let bitlt = Command::Bitlt {
             d: 0,
             b: 0,
@@ -201,5 +223,16 @@ mod tests {
         assert_eq!((bitlt.triples, bitlt.openings()), (0, 0));
         let reveal = Command::Reveal { a: 0 }.cost(&FIELDS[0]);
         assert_eq!((reveal.triples, reveal.openings()), (0, 1));
+    }
+
+    #[test]
+    fn signs_are_read_from_one_stretch_and_left_in_the_other() {
+        let (d, a, h, k) = (40, 3, 3, 2);
+        let ltzs = Command::Ltzs { d, a, h, k };
+        assert_eq!((ltzs.reads(), ltzs.writes()), (vec![3, 4, 5], 40..43));
+        let last = Command::Ltzs { d: 48, a, h: 16, k };
+        assert_eq!(last.writes(), 48..64);
+        assert_eq!(Command::Load { d: 63 }.writes(), 63..64);
+        assert!(Command::Reveal { a }.writes().is_empty());
     }
 }

@@ -6,6 +6,9 @@ use crate::field::Field;
 use crate::script::command::{Command, Cost};
 use crate::sheet::header::{LONGEST_SCRIPT, MOST_INPUTS, MOST_MASKS, MOST_TRIPLES};
 
+/// The largest h of LTZS.
+const MOST_SIGNS: u32 = 16;
+
 pub struct Drawer<'a> {
     generator: &'a mut Generator,
     field: &'static Field,
@@ -36,6 +39,9 @@ impl<'a> Drawer<'a> {
         if drawer.generator.below(8) == 0 {
             drawer.bits();
         }
+        if drawer.generator.below(8) == 0 {
+            drawer.bank();
+        }
         let longest = drawer.generator.pick(&[4, 4, 8, 8, 16, 60]);
         for _ in 0..=drawer.generator.below(longest) {
             drawer.any();
@@ -58,8 +64,8 @@ impl<'a> Drawer<'a> {
             && spent.triples <= MOST_TRIPLES
             && length <= LONGEST_SCRIPT;
         if fits {
-            if let Some(d) = command.target() {
-                self.set[usize::from(d)] = true;
+            for register in command.writes() {
+                self.set[usize::from(register)] = true;
             }
             self.spent = spent;
             self.length = length;
@@ -107,7 +113,7 @@ impl<'a> Drawer<'a> {
         let k = self.k();
         let m = self.m(k);
         let v = self.value();
-        let command = match self.generator.below(16) {
+        let command = match self.generator.below(17) {
             0..=1 => return self.load(),
             2 => Command::Const { d, v },
             3 => Command::Add { d, a, b },
@@ -120,6 +126,7 @@ impl<'a> Drawer<'a> {
             11 => Command::Over { d, a, k, v },
             12 => return self.blocks(d, a, k, m),
             13 => self.comparison(d, b),
+            14 => return self.signs(a),
             _ => Command::Reveal { a },
         };
         self.push(command);
@@ -141,18 +148,58 @@ impl<'a> Drawer<'a> {
 
     /// Mostly over registers that are all set.
     fn comparison(&mut self, d: u8, b: u8) -> Command {
-        let from_b = &self.set[usize::from(b)..];
-        let run = from_b.iter().take_while(|&&set| set).count();
-        let widest = if self.generator.below(16) == 0 {
-            from_b.len()
-        } else {
-            run
-        };
-        let widest = widest.clamp(1, 31) as u8;
-        let any = 1 + self.generator.below(u32::from(widest)) as u8;
-        let w = self.generator.pick(&[1, any, widest, widest]);
+        let w = self.count_from(b, 31);
         let v = self.bound(w);
         Command::Bitlt { d, b, w, v }
+    }
+
+    /// How many registers to read from the first on, at most so many: mostly those that are set.
+    fn count_from(&mut self, first: u8, most: usize) -> u8 {
+        let registers = &self.set[usize::from(first)..];
+        let set = registers.iter().take_while(|&&set| set).count();
+        let longest = if self.generator.below(16) == 0 {
+            registers.len()
+        } else {
+            set
+        };
+        let longest = longest.clamp(1, most) as u8;
+        let any = 1 + self.generator.below(u32::from(longest)) as u8;
+        self.generator.pick(&[1, any, longest, longest])
+    }
+
+    /// Inputs in a row of registers, and LTZS of them.
+    fn bank(&mut self) {
+        let any = 1 + self.generator.below(MOST_SIGNS) as u8;
+        let h = self.generator.pick(&[1, 2, 16, any, any, any]);
+        let any = self.generator.below(65 - u32::from(h)) as u8;
+        let a = self.generator.pick(&[0, 64 - h, any]);
+        for register in a..a + h {
+            let value = self.value();
+            self.load_value(register, value);
+        }
+        self.signs_of(a, h);
+    }
+
+    /// Mostly over registers that are all set.
+    fn signs(&mut self, a: u8) {
+        let h = self.count_from(a, MOST_SIGNS as usize);
+        self.signs_of(a, h);
+    }
+
+    /// LTZS into the same registers, into those just before or after them, or into any others. The smallest
+    /// k where a drawn one takes more than there can be.
+    fn signs_of(&mut self, a: u8, h: u8) {
+        let k = self.k();
+        let into = |d, k| Command::Ltzs { d, a, h, k };
+        let is_good = |&d: &u8| into(d, k).is_in_range(self.field);
+        let all: Vec<u8> = (0..64).filter(is_good).collect();
+        let is_near = |d: &u8| [0, h].contains(&d.abs_diff(a));
+        let near: Vec<u8> = all.iter().copied().filter(is_near).collect();
+        let choices = self.generator.pick(&[&all, &near, &near]);
+        let d = self.generator.pick(choices);
+        if !self.push(into(d, k)) {
+            self.push(into(d, 2));
+        }
     }
 
     /// Below 2^w, often at the ends.

@@ -8,7 +8,7 @@ use crate::script::command::Command;
 
 const SEED: u64 = 0x5EED_0005;
 
-pub const NAMES: [&str; 7] = [
+pub const NAMES: [&str; 8] = [
     "mul",
     "rounding",
     "test-call-170",
@@ -16,10 +16,18 @@ pub const NAMES: [&str; 7] = [
     "three-calls",
     "refused",
     "no-mask-left",
+    "lift-bank",
 ];
 
 /// The seconds that three-calls shares.
 pub const CALLS: [u32; 3] = [179, 128, 0];
+
+/// The seconds that lift-bank shares: calls of a bank of twelve lifts' telephones. The limit less the last is
+/// the lowest number of 15 bits.
+const BANK: [u32; 12] = [0, 1, 64, 128, 169, 170, 171, 172, 179, 600, 3_600, 16_554];
+
+/// The limit of a test call in seconds.
+const LIMIT: u32 = 170;
 
 /// The bytes of the sheet with this name.
 pub fn named(name: &str) -> Option<Vec<u8>> {
@@ -31,6 +39,7 @@ pub fn named(name: &str) -> Option<Vec<u8>> {
         "three-calls" => Some(three_calls().to_bytes()),
         "refused" => Some(refused().to_bytes()),
         "no-mask-left" => Some(no_mask_left().to_bytes()),
+        "lift-bank" => Some(lift_bank().to_bytes()),
         _ => None,
     }
 }
@@ -50,9 +59,9 @@ fn rounding() -> Draft {
     Draft::deal(&mut dealer, &commands, &[10], &[5, 12])
 }
 
-/// Whether a test call ran over 170 seconds.
+/// Whether a test call ran over its limit.
 fn test_call(seconds: u32) -> Draft {
-    let (d, a, k, v) = (1, 0, 15, 170);
+    let (d, a, k, v) = (1, 0, 15, LIMIT);
     let commands = [
         Command::Load { d: a },
         Command::Over { d, a, k, v },
@@ -86,6 +95,21 @@ fn no_mask_left() -> Draft {
     dealt(4, &commands, &CALLS, 2)
 }
 
+/// Which of twelve calls ran over the limit: the limit less each call, and one LTZS of them all.
+fn lift_bank() -> Draft {
+    let (limit, d, a, h, k) = (12, 32, 16, 12, 15);
+    let mut commands: Vec<Command> = (0..h).map(|d| Command::Load { d }).collect();
+    commands.push(Command::Const { d: limit, v: LIMIT });
+    commands.extend((0..h).map(|call| Command::Sub {
+        d: a + call,
+        a: limit,
+        b: call,
+    }));
+    commands.push(Command::Ltzs { d, a, h, k });
+    commands.extend((d..d + h).map(|a| Command::Reveal { a }));
+    dealt(6, &commands, &BANK, BANK.len())
+}
+
 /// Blocks of 64 seconds.
 fn blocks(d: u8, a: u8) -> Command {
     let (k, m) = (15, 6);
@@ -107,7 +131,7 @@ mod tests {
     /// The number, the place, inputs, masks, triples, openings, and the values revealed.
     type End = (u32, usize, [usize; 4], &'static [u32]);
 
-    const ENDS: [End; 7] = [
+    const ENDS: [End; 8] = [
         (0, 10, [2, 0, 1, 3], &[2]),
         (0, 16, [1, 2, 8, 20], &[11, 1]),
         (0, 12, [1, 1, 42, 86], &[0]),
@@ -115,6 +139,12 @@ mod tests {
         (0, 37, [3, 3, 78, 163], &[3, 2, 0, 5]),
         (6, 0, [0; 4], &[]),
         (23, 20, [3, 2, 52, 108], &[3, 2]),
+        (
+            0,
+            107,
+            [12, 12, 504, 1032],
+            &[0, 0, 0, 0, 0, 0, 1, 1, 1, 1, 1, 1],
+        ),
     ];
 
     #[test]
@@ -139,6 +169,7 @@ mod tests {
             test_call(171),
             three_calls(),
             no_mask_left(),
+            lift_bank(),
         ];
         for (i, first) in drafts.iter().enumerate() {
             for second in &drafts[i + 1..] {
@@ -146,6 +177,20 @@ mod tests {
                 assert!(first.triples.iter().all(|x| !second.triples.contains(x)));
             }
         }
+    }
+
+    /// What the run does not spend is not in the header, and the script has these bytes.
+    #[test]
+    fn the_bank_has_what_its_script_takes() {
+        let bank = lift_bank();
+        let counts = [bank.inputs.len(), bank.masks.len(), bank.triples.len()];
+        assert_eq!(counts, [12, 12, 504]);
+        assert_eq!(bank.script.len(), 12 * 2 + 6 + 12 * 4 + 5 + 12 * 2 + 1);
+        assert_eq!(bank.script[24..34], [2, 12, 170, 0, 0, 0, 4, 16, 12, 0]);
+        assert_eq!(
+            bank.script[74..85],
+            [4, 27, 12, 11, 14, 32, 16, 12, 15, 12, 32]
+        );
     }
 
     #[test]

@@ -213,7 +213,7 @@ fn broken_script(generator: &mut Generator, draft: &Draft) -> Vec<u8> {
         0 => script.truncate(generator.below(script.len() as u32 + 1) as usize),
         1 => script.extend((0..=generator.below(4)).map(|_| generator.any() as u8)),
         2 => script.truncate(script.len() - 1),
-        3 => script[place] = generator.pick(&[0x0E, 0x0F, 0x80, 0xFF]),
+        3 => script[place] = generator.pick(&[0x0F, 0x10, 0x80, 0xFF]),
         4 => script.clear(),
         5 => {
             let any = generator.below(script.len() as u32) as usize;

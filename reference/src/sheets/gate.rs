@@ -1,6 +1,6 @@
 //! The sheets that the gate gives to program `table`, beside the examples: one for each number that
-//! it answers, those that open and reveal the most, and one for each number of parties that no other
-//! has, since the program takes everyone as present.
+//! it answers, one for each end that LTZS can have, those that open and reveal the most, and one for each
+//! number of parties that no other has, since the program takes everyone as present.
 
 use super::draft::Draft;
 use super::examples;
@@ -18,6 +18,7 @@ const SPELLED: u32 = 0x5555_5555;
 pub fn all() -> Vec<(String, Vec<u8>)> {
     let ends = faults().into_iter().chain(stops());
     let ends = ends.map(|(number, fault)| (format!("end-{number}"), spoiled(number, fault)));
+    let signs = signs().map(|(number, fault)| (format!("ltzs-{number}"), spoiled(number, fault)));
     let others = [
         ("bit-tests", bit_tests()),
         ("most-openings", most_openings()),
@@ -27,7 +28,7 @@ pub fn all() -> Vec<(String, Vec<u8>)> {
         ("six-parties", product(43, (6, 2))),
     ];
     let others = others.map(|(name, draft)| (name.to_owned(), draft.to_bytes()));
-    ends.chain(others).collect()
+    ends.chain(signs).chain(others).collect()
 }
 
 /// The bytes of the sheet with this name.
@@ -81,7 +82,7 @@ fn faults() -> [(u32, Fault); 11] {
                 amount: 1,
             },
         ),
-        (9, Fault::Script(vec![0x0E])),
+        (9, Fault::Script(vec![0x0F])),
         (10, Fault::Script(vec![])),
         (11, Fault::Script(vec![0x01, 64, 0x00])),
     ]
@@ -91,16 +92,35 @@ fn faults() -> [(u32, Fault); 11] {
 /// 63, which is unset. A value is revealed before, so that lines stand before the last one.
 fn stops() -> [(u32, Fault); 4] {
     let (d, a, k) = (1, 0, 15);
-    let stop = |commands: &[Command]| {
-        let first = [Command::Load { d: a }, Command::Reveal { a }];
-        Fault::Script(script_of(&[&first, commands].concat()))
+    [
+        (21, after_reveal(&[Command::Reveal { a: 63 }])),
+        (22, after_reveal(&[Command::Load { d }; 3])),
+        (23, after_reveal(&[Command::Blocks { d, a, k, m: 6 }; 4])),
+        (24, after_reveal(&[Command::Ltz { d, a, k }; 2])),
+    ]
+}
+
+/// LTZS of registers 0 to h - 1, of which 0 to 3 are set, with three masks and 78 triples: three signs of 7
+/// bits take all of them, and of 8 bits 84 triples.
+fn signs() -> [(u32, Fault); 4] {
+    let signs = |d, h, k| {
+        let set = (1..4).map(|d| Command::Const { d, v: 65_520 });
+        let signs = Command::Ltzs { d, a: 0, h, k };
+        let last = Command::Reveal { a: d + 1 };
+        after_reveal(&set.chain([signs, last]).collect::<Vec<_>>())
     };
     [
-        (21, stop(&[Command::Reveal { a: 63 }])),
-        (22, stop(&[Command::Load { d }; 3])),
-        (23, stop(&[Command::Blocks { d, a, k, m: 6 }; 4])),
-        (24, stop(&[Command::Ltz { d, a, k }; 2])),
+        (0, signs(61, 3, 7)),
+        (21, signs(0, 5, 7)),
+        (23, signs(0, 4, 2)),
+        (24, signs(0, 3, 8)),
     ]
+}
+
+/// Another script, in which the first input is revealed before the commands.
+fn after_reveal(commands: &[Command]) -> Fault {
+    let first = [Command::Load { d: 0 }, Command::Reveal { a: 0 }];
+    Fault::Script(script_of(&[&first, commands].concat()))
 }
 
 /// 17 comparisons of 31 bits, which take 510 triples, and as many REVEALs as the script holds. The
@@ -119,16 +139,18 @@ fn bit_tests() -> Draft {
     seven_parties(31, &commands, &bits, 0)
 }
 
-/// 1,024 + 6 + 498 openings in a script of 1,024 bytes. No sheet opens more: a command takes at most
-/// 87 triples, so six are needed for all 512; and a seventh mask is one opening more, but its command
-/// stands in the place of two REVEALs.
+/// 1,024 + 16 + 501 openings in a script of 1,024 bytes. No sheet opens more: all masks and triples are taken
+/// by three LTZS, of which each sets registers for the next, so that three LOADs suffice. Each command and
+/// each LOAD less is room for REVEALs, but fewer masks can be taken then.
 fn most_openings() -> Draft {
-    let (a, k) = (0, 30);
-    let mut commands = vec![Command::Load { d: a }];
-    commands.extend((1..6).map(|d| Command::Ltz { d, a, k }));
-    commands.push(Command::Trunc { d: 6, a, k, m: 24 });
-    commands.extend((0..7).cycle().take(498).map(|a| Command::Reveal { a }));
-    seven_parties(32, &commands, &[1_610_612_736], 6)
+    let a = 0;
+    let mut commands: Vec<Command> = (0..3).map(|d| Command::Load { d }).collect();
+    for (d, h, k) in [(3, 3, 2), (6, 5, 2), (11, 8, 3)] {
+        commands.push(Command::Ltzs { d, a, h, k });
+    }
+    commands.extend((0..19).cycle().take(501).map(|a| Command::Reveal { a }));
+    let secrets = [1_610_612_736, 1, 2_147_483_645];
+    seven_parties(32, &commands, &secrets, 16)
 }
 
 /// 510 REVEALs: the first command has to set a register, and the last is END.
@@ -171,7 +193,7 @@ fn dealt(
 mod tests {
     use super::*;
     use crate::run_case::{Case, Outcome};
-    use crate::sheet::header::{LONGEST_SCRIPT, MOST_TRIPLES};
+    use crate::sheet::header::{LONGEST_SCRIPT, MOST_MASKS, MOST_TRIPLES};
 
     fn outcome(name: &str) -> Outcome {
         Case::with_room(named(name).expect(name)).outcome()
@@ -184,15 +206,34 @@ mod tests {
             assert_eq!(answer.number, number);
             assert_eq!(answer.openings > 0, number > 20, "{number}");
         }
-        assert_eq!(all().len(), 15 + 6);
+        assert_eq!(all().len(), 15 + 4 + 6);
         assert_eq!(named("end-25"), None);
+    }
+
+    #[test]
+    fn there_is_a_sheet_for_each_number_of_ltzs() {
+        for (number, counts) in [
+            (0, [1, 3, 78, 161]),
+            (21, [1, 0, 0, 1]),
+            (23, [1, 0, 0, 1]),
+            (24, [1, 0, 0, 1]),
+        ] {
+            let outcome = outcome(&format!("ltzs-{number}"));
+            let answer = outcome.answer;
+            assert_eq!(answer.number, number);
+            let spent = [answer.inputs, answer.masks, answer.triples, answer.openings];
+            assert_eq!(spent, counts, "{number}");
+            assert_eq!(answer.place, if number == 0 { 29 } else { 22 });
+        }
+        // the first input, and whether -1 is below 0
+        assert_eq!(outcome("ltzs-0").revealed[..2], [179, 1]);
     }
 
     #[test]
     fn large_sheets_end_well_with_these_openings() {
         for (name, triples, openings, revealed, script) in [
             ("bit-tests", 510, 1432, 412, 1023),
-            ("most-openings", 512, 1528, 498, 1024),
+            ("most-openings", 512, 1541, 501, 1024),
             ("most-reveals", 0, 510, 510, 1023),
         ] {
             let outcome = outcome(name);
@@ -223,18 +264,28 @@ mod tests {
         assert_eq!((below, rest), (&[1; 8][..], &[0; 9][..]));
     }
 
-    /// What so many commands with a mask and BITLTs open at most, with REVEALs in the rest of the
-    /// script after LOAD and END. For an opening MUL takes as many bytes as REVEAL.
-    fn most(masks: usize, bit_tests: usize) -> usize {
+    /// What so many LOADs, LTZS, other commands with a mask and BITLTs open at most, with REVEALs in the rest of
+    /// the script before END. An LTZS reads registers that are set, and sets at most as many more; it comes last
+    /// here, when the others have set theirs. For an opening MUL takes as many bytes as REVEAL.
+    fn most([loads, signs, others, bit_tests]: [usize; 4]) -> usize {
+        let set = loads + others + bit_tests;
+        let taken = set * ((1 << signs) - 1) + others;
+        let masks = taken.min(MOST_MASKS);
         let triples = (87 * masks + 30 * bit_tests).min(MOST_TRIPLES);
-        let reveals = (LONGEST_SCRIPT - 3 - 4 * masks - 8 * bit_tests) / 2;
+        let bytes = 2 * loads + 5 * signs + 4 * others + 8 * bit_tests;
+        let reveals = (LONGEST_SCRIPT - 1 - bytes) / 2;
         2 * triples + masks + reveals
     }
 
     #[test]
     fn no_sheet_opens_more() {
-        let mixtures = (0..=16).flat_map(|masks| (0..=18).map(move |tests| (masks, tests)));
-        let largest = mixtures.map(|(masks, tests)| most(masks, tests)).max();
-        assert_eq!(largest, Some(outcome("most-openings").answer.openings));
+        let mut largest = 0;
+        for (loads, signs) in (1..=16).flat_map(|loads| (0..=16).map(move |signs| (loads, signs))) {
+            for (others, tests) in (0..=16).flat_map(|others| (0..=18).map(move |it| (others, it)))
+            {
+                largest = largest.max(most([loads, signs, others, tests]));
+            }
+        }
+        assert_eq!(largest, outcome("most-openings").answer.openings);
     }
 }

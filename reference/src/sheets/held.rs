@@ -202,7 +202,7 @@ mod tests {
             (&[1, 0][..], 10, 2),
             (&[1, 0, 0, 0], 10, 3),
             (&[0, 0], 10, 1),
-            (&[1, 0, 14, 0], 9, 2),
+            (&[1, 0, 15, 0], 9, 2),
             (&[1, 0, 3, 64, 0], 10, 2),
             (&[1, 0, 2, 64, 4, 0, 0, 0, 0], 11, 2),
             (&[1, 0, 13, 1, 3, 3, 4, 0, 0, 0], 10, 10),
@@ -210,6 +210,35 @@ mod tests {
             let found = scripts().into_iter().find(|held| held.script == script);
             let answer = found.expect("the script is in the table").left().answer;
             assert_eq!((answer.number, answer.place), (number, place), "{script:?}");
+        }
+    }
+
+    /// -1 and -4 are below 0.
+    #[test]
+    fn signs_are_those_that_the_comments_say() {
+        for (says, signs) in [
+            ("LTZS k=2 of -1 and 1: 1, 0", [1, 0]),
+            ("LTZS k=3 of 3 and -4, d = a: 0, 1", [0, 1]),
+        ] {
+            let found = masked().into_iter().find(|held| held.says == says);
+            let left = found.expect("the run is in the table").left();
+            assert_eq!(left.revealed[..2], signs, "{says}");
+        }
+    }
+
+    /// After a refusal of LTZS the two constants before it stand, and nothing else.
+    #[test]
+    fn refused_signs_leave_nothing() {
+        let all = runs();
+        let signs = all.iter().filter(|held| held.says.contains("LTZS"));
+        let refused: Vec<_> = signs.filter(|held| number_said(held.says) > 0).collect();
+        assert_eq!(refused.len(), 4);
+        for held in refused {
+            let Left { answer, record, .. } = held.left();
+            assert_eq!(answer.place, 12, "{}", held.says);
+            assert_eq!((answer.masks, answer.triples, answer.openings), (0, 0, 0));
+            assert_eq!(answer.set.iter().filter(|&&set| set).count(), 2);
+            assert!(record.iter().all(|&number| number == FILLING));
         }
     }
 

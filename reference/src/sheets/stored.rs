@@ -8,6 +8,7 @@ mod figures;
 mod operands;
 mod present;
 mod scripts;
+mod signs;
 mod spoiled;
 mod stops;
 
@@ -34,6 +35,7 @@ pub fn all() -> Vec<Case> {
     cases.extend(held::cases());
     cases.extend(drawn::all());
     cases.extend(present::all(&mut generator));
+    cases.extend(signs::all(&mut generator));
     cases.push(largest());
     cases
 }

@@ -9,6 +9,7 @@ pub fn commands(field: &Field) -> Vec<Command> {
     all.extend(widths(field));
     all.extend(values(field.modulus));
     all.extend(comparisons());
+    all.extend(signs(field.largest_k as u8));
     all
 }
 
@@ -97,6 +98,41 @@ fn comparisons() -> Vec<Command> {
         .into_iter()
         .map(|(d, b, w, v)| Command::Bitlt { d, b, w, v })
         .collect()
+}
+
+/// LTZS: an h that is none, stretches past the last register, and stretches that share some registers and
+/// not all. The k of these is good in every field.
+fn signs(largest: u8) -> Vec<Command> {
+    let wrong = [
+        (0, 0, 0),
+        (0, 32, 17),
+        (0, 0, 255),
+        (64, 0, 1),
+        (0, 64, 1),
+        (255, 0, 1),
+        (0, 255, 1),
+        (240, 0, 16),
+        (0, 240, 16),
+        (63, 0, 2),
+        (0, 63, 2),
+        (49, 0, 16),
+        (0, 49, 16),
+        (49, 49, 16),
+        (0, 1, 2),
+        (1, 0, 2),
+        (0, 15, 16),
+        (15, 0, 16),
+        (0, 1, 16),
+        (48, 47, 16),
+    ];
+    let stretches = wrong.map(|(d, a, h)| Command::Ltzs { d, a, h, k: 2 });
+    let widths = [0, 1, largest + 1, 255].map(|k| Command::Ltzs {
+        d: 0,
+        a: 0,
+        h: 1,
+        k,
+    });
+    stretches.into_iter().chain(widths).collect()
 }
 
 #[cfg(test)]

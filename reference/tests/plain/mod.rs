@@ -39,6 +39,7 @@ impl<'a> Plain<'a> {
         let left = match *command {
             Command::End => return,
             Command::Reveal { a } => return self.revealed.push(at(a) as u32),
+            Command::Ltzs { d, a, h, k } => return self.signs(d, a, h, k),
             Command::Load { .. } => self.weights.secret(self.inputs.next().unwrap()),
             Command::Const { v, .. } => u64::from(v),
             Command::Add { a, b, .. } => field.add(at(a), at(b)),
@@ -55,7 +56,21 @@ impl<'a> Plain<'a> {
                 comparison(field, v, &bits)
             }
         };
-        self.registers[usize::from(command.target().unwrap())] = Some(left);
+        for register in command.writes() {
+            self.set(register, left);
+        }
+    }
+
+    fn set(&mut self, register: u8, value: u64) {
+        self.registers[usize::from(register)] = Some(value);
+    }
+
+    /// Register by register: no sign is read again, since the stretches are equal or share no register.
+    fn signs(&mut self, d: u8, a: u8, h: u8, k: u8) {
+        for i in 0..h {
+            let sign = sign(self.field, self.at(a + i), k);
+            self.set(d + i, sign);
+        }
     }
 }
 

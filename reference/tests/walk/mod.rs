@@ -9,7 +9,10 @@ use reference::sheet::Sheet;
 use reference::sheets::stored;
 
 /// What `look` finds at the commands that finish when the sheet is run.
-pub fn found<T>(case: &Case, look: impl Fn(&Field, &Plain, &Command) -> Option<T>) -> Vec<T> {
+pub fn found<T, I: IntoIterator<Item = T>>(
+    case: &Case,
+    look: impl Fn(&Field, &Plain, &Command) -> I,
+) -> Vec<T> {
     let Ok(sheet) = Sheet::read(&case.sheet, case.present) else {
         return Vec::new();
     };
@@ -25,7 +28,9 @@ pub fn found<T>(case: &Case, look: impl Fn(&Field, &Plain, &Command) -> Option<T
 }
 
 /// The same of all stored sheets.
-pub fn found_in_stored<T>(look: impl Fn(&Field, &Plain, &Command) -> Option<T>) -> Vec<T> {
+pub fn found_in_stored<T, I: IntoIterator<Item = T>>(
+    look: impl Fn(&Field, &Plain, &Command) -> I,
+) -> Vec<T> {
     let cases = stored::all();
     cases.iter().flat_map(|case| found(case, &look)).collect()
 }

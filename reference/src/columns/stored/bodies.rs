@@ -30,7 +30,7 @@ pub fn all() -> Vec<Told> {
 fn scripts() -> Vec<Vec<u8>> {
     let every: Vec<u8> = (0..=255).collect();
     let scripts: [&[u8]; 7] = [
-        &[0x0E, 0x00],
+        &[0x0F, 0x00],
         &[0xFF, 0xFF, 0xFF],
         &[0x01],
         &[0x00, 0x00],

@@ -11,12 +11,12 @@ pub fn all() -> Vec<Named> {
 
 fn plain() -> Vec<Named> {
     let scripts: [(&str, &[u8]); 7] = [
-        ("no-command", &[1, 0, 14, 0]),
+        ("no-command", &[1, 0, 15, 0]),
         ("no-command-255", &[255]),
         ("empty-script", &[]),
         ("no-end", &[12, 0]),
         // what follows END is read as no command, as one that is cut off, and as END
-        ("after-end-no-command", &[0, 14]),
+        ("after-end-no-command", &[0, 15]),
         ("after-end", &[12, 0, 0, 6, 0]),
         ("after-end-end", &[0, 0]),
     ];

@@ -54,6 +54,24 @@ fn of_commands() -> Vec<Named> {
         let short = draft.with_counts([1, 1, 3]);
         all.push(head_of_command("short", &command, short));
     }
+    all.extend(of_signs());
+    all
+}
+
+/// LTZS of one register, of two, and of the most: one mask or one triple less than it needs. In field 0 each
+/// sign needs 4 triples here.
+fn of_signs() -> Vec<Named> {
+    let mut all = Vec::new();
+    for (name, h) in [("ltzs", 2), ("one-sign", 1), ("16-signs", 16)] {
+        let (d, a, k) = (0, 0, 2);
+        let loads = (0..h).map(|d| Load { d });
+        let commands: Vec<Command> = loads.chain([Ltzs { d, a, h, k }]).collect();
+        let h = u16::from(h);
+        let no_mask = format!("no-mask-{name}");
+        all.push(with(&no_mask, &commands, [h, h - 1, 4 * h]));
+        let short = format!("short-{name}");
+        all.push(with(&short, &commands, [h, h, 4 * h - 1]));
+    }
     all
 }
 
@@ -74,7 +92,17 @@ fn at_limits() -> Vec<Named> {
         with("needs-17-masks", &masked(17), [1, 16, 512]),
         in_field_3("needs-512-triples", &triples, [1, 6, 511]),
         in_field_3("needs-513-triples", &product, [1, 6, 512]),
+        in_field_3("needs-275616-triples", &many_signs(), [16, 16, 512]),
     ]
+}
+
+/// As many LTZS of 16 registers as a script has room for, each of which alone needs more triples than a header
+/// may count; together they need more than two bytes can say.
+fn many_signs() -> Vec<Command> {
+    let (d, a, h, k) = (0, 0, 16, 30);
+    let loads = (0..h).map(|d| Load { d });
+    let signs = vec![Ltzs { d, a, h, k }; 198];
+    loads.chain(signs).collect()
 }
 
 /// A later command reads a register that none sets, so that nothing is said of the whole script; and one

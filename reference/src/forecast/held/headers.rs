@@ -61,7 +61,7 @@ fn lengths() -> [Held; 4] {
 }
 
 fn ordered() -> [Held; 4] {
-    let refused = Draft::new(4, &[14])
+    let refused = Draft::new(4, &[15])
         .with_parties(8, 1)
         .with_counts([65, 0, 0]);
     let in_field = Draft {
@@ -79,7 +79,7 @@ fn ordered() -> [Held; 4] {
 /// What is refused before the length, with a byte too many.
 fn longer() -> [Held; 3] {
     let (no_field, parties) = (Draft::new(4, &[0]), end().with_parties(8, 1));
-    let count = Draft::new(0, &[14]).with_counts([65, 0, 0]);
+    let count = Draft::new(0, &[15]).with_counts([65, 0, 0]);
     let longer = |draft: Draft| [draft.to_bytes(), vec![0]].concat();
     [
         held_bytes("2 before 4: a byte too many in field 4", longer(no_field)),

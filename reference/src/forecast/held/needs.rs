@@ -11,13 +11,18 @@ pub fn all() -> Vec<Held> {
     needs.flat_map(rows).collect()
 }
 
-/// LOADs set what the command reads: three bits, else one register.
+/// LOADs set what the command reads: three bits, the registers of LTZS, else one.
 fn head((field, command, ..): Needs, triples: u16) -> Draft {
     let reads = command.reads();
-    let (inputs, masks) = (reads.len() as u16, !matches!(command, Bitlt { .. }));
+    let inputs = reads.len() as u16;
+    // a mask for each register that is read
+    let masks = match command {
+        Bitlt { .. } => 0,
+        _ => inputs,
+    };
     let loads = reads.into_iter().map(|d| Load { d });
     let commands: Vec<Command> = loads.chain([command]).collect();
-    Draft::of(field, &commands).with_counts([inputs, masks.into(), triples])
+    Draft::of(field, &commands).with_counts([inputs, masks, triples])
 }
 
 fn rows(needs: Needs) -> [Held; 2] {
@@ -32,8 +37,8 @@ fn rows(needs: Needs) -> [Held; 2] {
     ]
 }
 
-fn in_field_0() -> [Needs; 6] {
-    let (d, a, b, k, m, v) = (0, 0, 0, 3, 1, 1);
+fn in_field_0() -> [Needs; 7] {
+    let (d, a, b, h, k, m, v) = (0, 0, 0, 2, 3, 1, 1);
     [
         (0, Bitlt { d, b, w: 3, v }, "BITLT w=3 takes 2 triples", 2),
         (0, Mod { d, a, k, m }, "MOD m=1 takes 4 triples", 4),
@@ -51,6 +56,7 @@ fn in_field_0() -> [Needs; 6] {
             4,
         ),
         (0, Blocks { d, a, k, m }, "BLOCKS m=1 takes 4 triples", 4),
+        (0, Ltzs { d, a, h, k }, "LTZS h=2 k=3 takes 12 triples", 12),
     ]
 }
 

@@ -6,6 +6,7 @@ use crate::script::command::Command::{self, *};
 pub fn all() -> Vec<Held> {
     let mut all = unset();
     all.extend(short());
+    all.extend(signs());
     all.extend(far());
     all
 }
@@ -93,6 +94,30 @@ fn short() -> Vec<Held> {
             &[load, Bitlt { d, b, w: 1, v }],
             [1, 0, 0],
         ),
+    ]
+}
+
+/// LTZS of two or three registers, which needs a mask and 4 triples for each.
+fn signs() -> Vec<Held> {
+    let (d, a, h, k) = (5, 0, 2, 2);
+    let loads = [Load { d: 0 }, Load { d: 1 }];
+    let signs = [&loads[..], &[Ltzs { d, a, h, k }]].concat();
+    let middle = [loads[0], Load { d: 2 }, Ltzs { d, a, h: 3, k }];
+    let read = |register| [&signs[..], &[Reveal { a: register }]].concat();
+    vec![
+        of(
+            "21 before 23: the middle register of LTZS is unset",
+            &middle,
+            [2, 0, 0],
+        ),
+        of("23: LTZS of two registers on one mask", &signs, [2, 1, 8]),
+        of(
+            "23 before 24: LTZS on a mask and 7 triples",
+            &signs,
+            [2, 1, 7],
+        ),
+        of("LTZS sets its last register", &read(6), [2, 2, 8]),
+        of("21: LTZS sets no more", &read(7), [2, 2, 8]),
     ]
 }
 

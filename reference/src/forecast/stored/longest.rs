@@ -4,9 +4,10 @@
 use super::Told;
 use crate::forecast::draft::Draft;
 use crate::forecast::head_of;
-use crate::refusal::{COMMAND, FORM, LENGTH, NONE, NO_INPUT, NO_TRIPLES, RANGE, UNSET};
+use crate::refusal::{COMMAND, FORM, LENGTH, NONE, NO_INPUT, NO_MASK, NO_TRIPLES, RANGE, UNSET};
 use crate::script::command::Command::{self, *};
-use crate::sheets::bench;
+use crate::sheet::header;
+use crate::sheets::{bench, gate};
 
 pub fn all() -> Vec<Told> {
     let largest = bench::largest();
@@ -14,6 +15,7 @@ pub fn all() -> Vec<Told> {
     all.extend(reveals());
     all.extend(lengths());
     all.extend(spent());
+    all.extend(most_openings());
     all
 }
 
@@ -60,15 +62,15 @@ fn lengths() -> Vec<Told> {
         with(&[&script[..], &[0]].concat(), LENGTH, 0),
         with(&[1, 0].repeat(512), FORM, 1024),
         with(&[0; 1024], FORM, 1),
-        with(&ended(&[14]), COMMAND, 1023),
+        with(&ended(&[15]), COMMAND, 1023),
         with(&ended(&[12]), FORM, 1023),
         with(&ended(&[0, 0, 0]), FORM, 1022),
         with(&ended(&[12, 64, 0]), RANGE, 1021),
     ]
 }
 
-/// 6 commands on all 512 triples, as the gate's sheet with the most openings; one triple less, and one
-/// command more. 16 masks on 496 triples, and MULs on the rest.
+/// 6 commands on all 512 triples; one triple less, and one command more. 16 masks on 496 triples, and MULs on
+/// the rest.
 fn spent() -> Vec<Told> {
     let (a, b, k) = (0, 0, 30);
     let mut few = vec![Load { d: a }];
@@ -90,10 +92,28 @@ fn spent() -> Vec<Told> {
     ]
 }
 
+/// The gate's sheet with the most openings, whose three LTZS take all masks and triples; one of either less,
+/// and what the first of them takes.
+fn most_openings() -> Vec<Told> {
+    let sheet = gate::named("most-openings").expect("the sheet is there");
+    let script = &head_of(&sheet)[header::BYTES..];
+    let with = |masks, triples, number, place| {
+        let draft = Draft::new(3, script).with_parties(7, 3);
+        let head = draft.with_counts([3, masks, triples]).to_bytes();
+        (head, number, place)
+    };
+    vec![
+        with(16, 512, NONE, 1023),
+        with(16, 511, NO_TRIPLES, 16),
+        with(15, 512, NO_MASK, 16),
+        with(3, 93, NO_MASK, 11),
+        with(16, 93, NO_TRIPLES, 11),
+    ]
+}
+
 #[cfg(test)]
 mod tests {
     use super::*;
-    use crate::sheet::header;
 
     #[test]
     fn scripts_have_1023_to_1025_bytes() {

@@ -19,6 +19,11 @@ pub fn all() -> Vec<Told> {
         for (command, m) in masked(largest) {
             all.extend(around(field, command, 1, bits + 2 * u16::from(m) - 2));
         }
+        for (h, k) in signs(largest) {
+            let command = Command::Ltzs { d: 0, a: 0, h, k };
+            let (masks, m) = (u16::from(h), u16::from(k) - 1);
+            all.extend(around(field, command, masks, masks * (bits + 2 * m - 2)));
+        }
     }
     all
 }
@@ -68,6 +73,13 @@ fn masked(largest: u8) -> Vec<(Command, u8)> {
     all
 }
 
+/// The h and k of LTZS: with the smallest k every h has room in every field, with the largest only a small h.
+fn signs(largest: u8) -> Vec<(u8, u8)> {
+    let mut all: Vec<(u8, u8)> = (1..=16).map(|h| (h, 2)).collect();
+    all.extend([1, 2, 3, 5].map(|h| (h, largest)));
+    all
+}
+
 /// The command after LOADs of all that it reads, with so many masks and triples, fewer and more.
 fn around(field: u8, command: Command, masks: u16, triples: u16) -> Vec<Told> {
     let reads = command.reads();
@@ -79,16 +91,18 @@ fn around(field: u8, command: Command, masks: u16, triples: u16) -> Vec<Told> {
         let draft = Draft::of(field, &commands).with_counts([inputs, masks, triples]);
         (draft.to_bytes(), number, place)
     };
+    // 16 are the most
+    let more = (masks + 1).min(16);
     let mut all = vec![
         with(masks, triples, NONE, end),
-        with(masks + 1, triples + 1, NONE, end),
+        with(more, triples + 1, NONE, end),
     ];
     if masks > 0 {
         all.push(with(masks - 1, triples, NO_MASK, place));
     }
     if triples > 0 {
         all.push(with(masks, triples - 1, NO_TRIPLES, place));
-        all.push(with(masks + 1, triples - 1, NO_TRIPLES, place));
+        all.push(with(more, triples - 1, NO_TRIPLES, place));
     }
     all
 }

@@ -99,7 +99,7 @@ fn lengths(good: &[u8]) -> Vec<Told> {
 /// unset.
 pub fn in_order() -> Vec<Told> {
     let wrong = |field, n, t| {
-        let draft = Draft::new(field, &[12, 0, 14]);
+        let draft = Draft::new(field, &[12, 0, 15]);
         draft.with_parties(n, t).with_counts([65, 17, 513])
     };
     let cut = |draft: Draft| draft.to_bytes()[..10].to_vec();
@@ -132,7 +132,7 @@ pub fn in_order() -> Vec<Told> {
 /// byte is left out or repeated.
 fn length_first() -> Vec<Told> {
     let scripts: [&[u8]; 7] = [
-        &[14, 0],
+        &[15, 0],
         &[0, 0],
         &[1, 64, 0],
         &[12, 0, 0],

@@ -12,6 +12,7 @@ pub fn all() -> Vec<Told> {
     all.extend(own_register());
     all.extend(orders());
     all.extend(sums());
+    all.extend(signs());
     all
 }
 
@@ -32,9 +33,10 @@ fn end_place(commands: &[Command]) -> usize {
 }
 
 /// One command each that 21 to 24 refuse where registers 0 and 1 are set, and nothing is left.
-fn refused() -> [(u32, Command); 9] {
+fn refused() -> [(u32, Command); 11] {
     use Command::*;
     let (d, a, b, k, m, v) = (1, 0, 1, 2, 1, 1);
+    let signs = |a| Ltzs { d: a, a, h: 2, k };
     [
         (UNSET, Reveal { a: 2 }),
         (UNSET, Mul { d, a, b: 2 }),
@@ -45,6 +47,8 @@ fn refused() -> [(u32, Command); 9] {
         (NO_MASK, Blocks { d, a, k, m }),
         (NO_TRIPLES, Mul { d, a, b }),
         (NO_TRIPLES, Bitlt { d, b: 0, w: 2, v }),
+        (UNSET, signs(1)),
+        (NO_MASK, signs(0)),
     ]
 }
 
@@ -83,12 +87,14 @@ fn places() -> Vec<Told> {
     all
 }
 
-/// Each command that reads, with each of its registers unset in turn, and with none. There is enough of
-/// everything.
-fn unset() -> Vec<Told> {
+/// Input rows, masks and triples for four signs of three bits in field 0.
+const ENOUGH: [u16; 3] = [8, 4, 24];
+
+/// Commands that read one register, two, or several.
+fn reading() -> [Command; 16] {
     use Command::*;
     let (d, a, b, k, m, v) = (9, 3, 5, 3, 2, 1);
-    let commands = [
+    [
         Add { d, a, b },
         Sub { d, a, b },
         Scale { d, a, v },
@@ -102,9 +108,18 @@ fn unset() -> Vec<Told> {
         Bitlt { d, b, w: 1, v },
         Bitlt { d, b, w: 4, v },
         Bitlt { d, b: 60, w: 4, v },
-    ];
+        Ltzs { d, a, h: 1, k },
+        Ltzs { d, a: 5, h: 4, k },
+        Ltzs { d, a: 60, h: 4, k },
+    ]
+}
+
+/// Each command that reads, with each of its registers unset in turn, and with none. There is enough of
+/// everything.
+fn unset() -> Vec<Told> {
+    use Command::*;
     let mut all = Vec::new();
-    for command in commands {
+    for command in reading() {
         let reads = command.reads();
         let with = |left_out: Option<u8>| -> Vec<Command> {
             let set = reads.iter().filter(|&&register| Some(register) != left_out);
@@ -114,11 +129,11 @@ fn unset() -> Vec<Told> {
             loads.chain(others).chain([command]).collect()
         };
         let whole = with(None);
-        all.push(told(0, &whole, [8, 2, 20], (NONE, end_place(&whole))));
+        all.push(told(0, &whole, ENOUGH, (NONE, end_place(&whole))));
         for &register in &reads {
             let commands = with(Some(register));
             let place = last_place(&commands);
-            all.push(told(0, &commands, [8, 2, 20], (UNSET, place)));
+            all.push(told(0, &commands, ENOUGH, (UNSET, place)));
         }
     }
     all
@@ -142,6 +157,7 @@ fn own_register() -> Vec<Told> {
             Over { d, a, k, v },
             Blocks { d, a, k, m },
             Bitlt { d, b, w: 1, v },
+            Ltzs { d, a, h: 1, k },
         ] {
             let commands = [Load { d }, command, command, Reveal { a }];
             let end = (NONE, end_place(&commands));
@@ -166,6 +182,7 @@ fn orders() -> Vec<Told> {
             Ltz { d, a, k },
             Over { d, a, k, v },
             Blocks { d, a, k, m },
+            Ltzs { d, a, h: 1, k },
         ] {
             let with = |commands: &[Command], masks, triples, end| {
                 told(field, commands, [1, masks, triples], end)
@@ -235,5 +252,34 @@ fn sums() -> Vec<Told> {
     let end = (NONE, end_place(&mixed));
     all.push(told(0, &mixed, [3, 3, 16], end));
     all.push(told(0, &mixed, [4, 4, 17], end));
+    all
+}
+
+/// LTZS of three registers, into the same, into those just before and after, and far off: one ground less each
+/// time, and enough for one or two of its signs.
+fn signs() -> Vec<Told> {
+    use Command::*;
+    let (a, h, k) = (10, 3, 3);
+    let mut all = Vec::new();
+    for (field, triples) in (0..).zip([6, 10, 18, 33]) {
+        for d in [10, 7, 13, 61] {
+            let with = |registers: &[u8], masks, triples, number| {
+                let loads = registers.iter().map(|&d| Load { d });
+                let commands: Vec<Command> = loads.chain([Ltzs { d, a, h, k }]).collect();
+                let place = match number {
+                    NONE => end_place(&commands),
+                    _ => last_place(&commands),
+                };
+                told(field, &commands, [3, masks, triples], (number, place))
+            };
+            let set = [10, 11, 12];
+            all.extend([[11, 12], [10, 12], [10, 11]].map(|set| with(&set, 0, 0, UNSET)));
+            all.extend([0, 1, 2].map(|masks| with(&set, masks, 0, NO_MASK)));
+            all.extend([1, 2].map(|masks| with(&set, masks, 3 * triples, NO_MASK)));
+            let few = [0, triples, 2 * triples, 3 * triples - 1];
+            all.extend(few.map(|triples| with(&set, 3, triples, NO_TRIPLES)));
+            all.push(with(&set, 3, 3 * triples, NONE));
+        }
+    }
     all
 }

@@ -19,7 +19,7 @@ pub fn plain() -> Vec<Held> {
 
 /// Those that take a mask.
 pub fn masked() -> Vec<Held> {
-    let cases = with_masks().into_iter().chain(more_blocks());
+    let cases = with_masks().into_iter().chain(more_blocks()).chain(signs());
     (100..).zip(cases).map(held).collect()
 }
 
@@ -309,5 +309,19 @@ fn more_blocks() -> Vec<Small> {
             9,
             5,
         ),
+    ]
+}
+
+/// LTZS of two registers: each sign with a mask of its own, into other registers and into the same.
+fn signs() -> Vec<Small> {
+    let signs = |says, d, k, secrets: [u32; 2], masks: [u32; 2]| {
+        let command = Command::Ltzs { d, a: 0, h: 2, k };
+        let reveals = [d, d + 1].map(|a| Command::Reveal { a });
+        let commands = after_loads(2, &[&[command], &reveals[..]].concat());
+        small(says, &commands, &secrets, &masks)
+    };
+    vec![
+        signs("LTZS k=2 of -1 and 1: 1, 0", 62, 2, [12, 1], [5, 9]),
+        signs("LTZS k=3 of 3 and -4, d = a: 0, 1", 0, 3, [3, 9], [12, 0]),
     ]
 }

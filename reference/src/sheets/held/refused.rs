@@ -239,7 +239,7 @@ fn triples() -> Vec<Held> {
             (0, 0, 1),
             &[3, 4, 5, 5, 7, 9, 9, 12, 2],
         ),
-        script("8 before 9", &[14]),
+        script("8 before 9", &[15]),
         script("8 before 10", &[]),
         script("8 before 11", &[1, 64, 0]),
     ]
@@ -257,7 +257,7 @@ fn limits() -> Vec<Held> {
     let script = |says, length: u16| {
         let [low, high] = length.to_le_bytes();
         let mut script = vec![0; usize::from(length)];
-        script[0] = 14;
+        script[0] = 15;
         Held::plain(says, &[0, 3, 1, 0, 0, 0, 0, 0, 0, low, high], &script, &[])
     };
     vec![
@@ -267,7 +267,7 @@ fn limits() -> Vec<Held> {
         small("4: 17 masks", (0, 17, 0), 204),
         triples("5: 512 triples, the first share is 13", 512, 13),
         triples("4: 513 triples", 513, 13),
-        script("9: 1,024 bytes of script, the first is 0E", 1024),
+        script("9: 1,024 bytes of script, the first is 0F", 1024),
         script("4: 1,025 bytes of script", 1025),
     ]
 }

@@ -14,6 +14,7 @@ pub fn all() -> Vec<Held> {
     all.extend(widths());
     all.extend(values());
     all.extend(comparisons());
+    all.extend(signs());
     all
 }
 
@@ -40,10 +41,10 @@ fn alone(says: &'static str, field: u8, command: Command) -> Held {
 
 fn commands() -> Vec<Held> {
     vec![
-        held("9: byte 0E", 0, &[14, 0]),
-        held("9: its place is the command's offset", 0, &[1, 0, 14, 0]),
+        held("9: byte 0F", 0, &[15, 0]),
+        held("9: its place is the command's offset", 0, &[1, 0, 15, 0]),
         held("9: byte FF", 0, &[1, 0, 255, 0]),
-        held("9 before 10: no END either", 0, &[1, 0, 14]),
+        held("9 before 10: no END either", 0, &[1, 0, 15]),
     ]
 }
 
@@ -57,7 +58,7 @@ fn ends() -> Vec<Held> {
             &[1, 0, 0, 0],
         ),
         held("10: END twice", 0, &[0, 0]),
-        held("10: what follows END is not read", 0, &[1, 0, 0, 14]),
+        held("10: what follows END is not read", 0, &[1, 0, 0, 15]),
         held("10: nor is it tried for 11", 0, &[1, 0, 0, 1, 64, 0]),
         held(
             "22: 100 times LOAD 1, and END: a longer script is read whole",
@@ -67,7 +68,7 @@ fn ends() -> Vec<Held> {
     ]
 }
 
-/// Each command from 01 to 0D.
+/// Each command from 01 to 0E.
 fn every() -> Vec<Command> {
     use Command::*;
     let (d, a, b, k, m, v) = (1, 2, 3, 3, 1, 4);
@@ -85,6 +86,7 @@ fn every() -> Vec<Command> {
         Blocks { d, a, k, m },
         Reveal { a },
         Bitlt { d, b, w: 3, v },
+        Ltzs { d, a, h: 1, k },
     ]
 }
 
@@ -106,8 +108,8 @@ fn sizes() -> Vec<Held> {
 fn first_of_two() -> Vec<Held> {
     vec![
         held("10 before 11: ADD 64 0, cut off", 0, &[1, 0, 3, 64, 0]),
-        held("11 before 9, command by command", 0, &[1, 0, 1, 64, 14, 0]),
-        held("9 before 11, command by command", 0, &[1, 0, 14, 1, 64, 0]),
+        held("11 before 9, command by command", 0, &[1, 0, 1, 64, 15, 0]),
+        held("9 before 11, command by command", 0, &[1, 0, 15, 1, 64, 0]),
         held("11 before a missing END", 0, &[1, 0, 1, 64]),
         held("11 before bytes after END", 0, &[1, 0, 1, 64, 0, 0]),
         held("11 before operands cut off", 0, &[1, 0, 1, 64, 6, 0]),
@@ -234,4 +236,30 @@ fn comparisons() -> Vec<Held> {
         .chain(bad)
         .chain([alone("21: v is not held to p", 0, bitlt(0, 0, 4, 15))])
         .collect()
+}
+
+/// LTZS: h from 1 to 16, both stretches to register 63, equal or with no register in both, and k as for LTZ.
+fn signs() -> Vec<Held> {
+    let good = [
+        ("21: LTZS h = 1, d = a", (63, 63, 1, 2)),
+        ("21: LTZS h = 2, d = a", (5, 5, 2, 3)),
+        ("21: LTZS h = 16, the registers read to 63", (0, 48, 16, 2)),
+        ("21: LTZS h = 16, the registers left to 63", (48, 0, 16, 3)),
+        ("21: LTZS, d + h is a", (0, 2, 2, 2)),
+        ("21: LTZS, a + h is d", (2, 0, 2, 2)),
+    ];
+    let bad = [
+        ("11: LTZS, h is 0", (0, 0, 0, 2)),
+        ("11: LTZS, h is 17", (0, 32, 17, 2)),
+        ("11: LTZS, a + h is 65", (0, 49, 16, 2)),
+        ("11: LTZS, d + h is 65", (49, 0, 16, 2)),
+        ("11: LTZS, d + h is a + 1", (0, 1, 2, 2)),
+        ("11: LTZS, a + h is d + 1", (1, 0, 2, 2)),
+        ("11: LTZS, k is 1", (0, 0, 2, 1)),
+        ("11: LTZS, k is 4", (0, 0, 2, 4)),
+    ];
+    let ltzs = |(d, a, h, k)| Command::Ltzs { d, a, h, k };
+    let good = good.map(|(says, operands)| alone(says, 0, ltzs(operands)));
+    let bad = bad.map(|(says, operands)| after_load(says, 0, ltzs(operands)));
+    good.into_iter().chain(bad).collect()
 }

@@ -25,6 +25,7 @@ pub fn all() -> Vec<Held> {
     stops.extend(no_mask());
     stops.extend(few_triples());
     stops.extend(full());
+    stops.extend(signs());
     let mut all: Vec<Held> = (0..)
         .zip(&stops)
         .map(|(index, stop)| held(index, stop))
@@ -258,6 +259,37 @@ fn full() -> Vec<Stop> {
             1,
         ),
         twice("room for both", 6, 2),
+    ]
+}
+
+/// LTZS of two registers takes two masks and 8 triples and opens 18 rows: it is refused whole, though there
+/// is enough for its first sign.
+fn signs() -> Vec<Stop> {
+    use Command::*;
+    let (d, a, k) = (5, 0, 2);
+    let set = |registers: &[u8], h| {
+        let consts = registers.iter().map(|&d| Const { d, v: 12 });
+        consts.chain([Ltzs { d, a, h, k }]).collect()
+    };
+    let signs = |says, masks, triples, record| Stop {
+        masks,
+        triples,
+        record,
+        commands: set(&[0, 1], 2),
+        ..after_const(says, End)
+    };
+    vec![
+        Stop {
+            commands: set(&[0, 2], 3),
+            ..after_const(
+                "21 before 23 to 25: the middle register of LTZS is unset",
+                End,
+            )
+        },
+        signs("23 before 24: LTZS h=2 with one mask", 1, 7, 54),
+        signs("24 before 25: LTZS h=2 with a triple less", 2, 7, 53),
+        signs("25: LTZS h=2, room for all its shares but one", 2, 8, 53),
+        signs("LTZS h=2 with just enough", 2, 8, 54),
     ]
 }
 

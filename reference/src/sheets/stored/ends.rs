@@ -114,7 +114,7 @@ fn masked_commands(largest: u8) -> Vec<Masked> {
 
 /// The ends of the range, their neighbours outside, -1 and 0. The larger fields, whose masks take
 /// many triples, have fewer of them, the last one by turns.
-fn values(number: u32, k: u8, turn: usize) -> Vec<u32> {
+pub fn values(number: u32, k: u8, turn: usize) -> Vec<u32> {
     let p = FIELDS[number as usize].modulus;
     let half = 1u32 << (k - 1);
     let mut outside = [p - half - 1, half];

@@ -175,7 +175,7 @@ fn faults() -> Vec<(u32, Fault)> {
             },
         ),
         (8, Fault::Triple { triple, amount }),
-        (9, Fault::Script(vec![14])),
+        (9, Fault::Script(vec![15])),
         (10, Fault::Script(vec![])),
         (11, Fault::Script(vec![1, 64, 0])),
     ]

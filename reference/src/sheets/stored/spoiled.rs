@@ -123,7 +123,7 @@ fn pairs() -> Vec<((u32, Fault), (u32, Fault))> {
         row(20, 2, 5),
         bit(1, 2, 2),
         triple(4, 3),
-        script(9, &[14]),
+        script(9, &[15]),
         script(10, &[]),
         script(11, &[1, 64, 0]),
     ]);

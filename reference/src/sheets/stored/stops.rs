@@ -5,7 +5,7 @@ use crate::cases::generator::Generator;
 use crate::dealer::Dealer;
 use crate::field::FIELDS;
 use crate::run_case::Case;
-use crate::script::command::Command;
+use crate::script::command::{Command, Cost};
 use crate::sheets::draft::Draft;
 
 /// A command, and what is left for it after the ones before it.
@@ -48,7 +48,7 @@ fn stopped(generator: &mut Generator, stop: &Stop) -> Case {
 }
 
 /// Commands whose operands are set, with all that they take, and a target that is set before.
-fn allowed() -> [Command; 8] {
+fn allowed() -> [Command; 10] {
     let (d, a, k, m) = (3, 4, 3, 1);
     [
         Command::Mul { d, a, b: 0 },
@@ -64,6 +64,13 @@ fn allowed() -> [Command; 8] {
             v: 9,
         },
         Command::Reveal { a },
+        Command::Ltzs { d, a: d, h: 2, k },
+        Command::Ltzs {
+            d: 0,
+            a: 2,
+            h: 2,
+            k: 2,
+        },
     ]
 }
 
@@ -81,6 +88,7 @@ fn stops() -> Vec<(u32, Stop)> {
         stops.extend(short_of(command));
     }
     stops.extend(short_of(Command::Reveal { a: 0 }));
+    stops.extend(parts_of_signs());
     stops
 }
 
@@ -142,7 +150,7 @@ fn short_of(command: Command) -> Vec<(u32, Stop)> {
     let mut stops = vec![(0, enough())];
     if masks > 0 {
         stops.push((23, nothing()));
-        stops.push((23, enough().masks(0)));
+        stops.push((23, enough().masks(masks - 1)));
         stops.push((24, nothing().masks(masks)));
     }
     if triples > 0 {
@@ -156,6 +164,24 @@ fn short_of(command: Command) -> Vec<(u32, Stop)> {
         stops.push((26, nothing().record(9)));
     }
     stops
+}
+
+/// LTZS of registers 0 to 2 into 3 to 5, with masks, triples or room in the record for one sign or two.
+fn parts_of_signs() -> Vec<(u32, Stop)> {
+    let (d, a, h, k) = (3, 0, 3, 2);
+    let signs = || enough(Command::Ltzs { d, a, h, k });
+    let Cost { triples, .. } = Command::Ltz { d, a, k }.cost(&FIELDS[0]);
+    let shares = 3 * (1 + 2 * triples);
+    let part = |count| {
+        [
+            (23, signs().masks(count)),
+            (24, signs().triples(count * triples)),
+            (25, signs().record(count * shares)),
+            (23, signs().masks(count).triples(count * triples)),
+            (24, signs().triples(count * triples).record(count * shares)),
+        ]
+    };
+    [1, 2].into_iter().flat_map(part).collect()
 }
 
 /// Commands that read a register that is unset.
@@ -173,6 +199,9 @@ fn unset() -> Vec<Command> {
     ];
     for (d, b, w) in [(5, 5, 1), (0, 1, 5), (0, 0, 31), (0, 33, 31)] {
         commands.push(Command::Bitlt { d, b, w, v: 1 });
+    }
+    for (d, a, h) in [(63, 63, 1), (0, 5, 1), (0, 4, 2), (3, 3, 3), (32, 0, 16)] {
+        commands.push(Command::Ltzs { d, a, h, k });
     }
     commands
 }
