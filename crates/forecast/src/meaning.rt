@@ -38,7 +38,7 @@ fn no_command(script: &[u8], at: usize) {
     if at < script.len() {
         number(b" is ", words::wide(script[at]));
     }
-    put(b", and the last command is 13.");
+    put(b", and the last command is 14.");
     line_end();
 }
 

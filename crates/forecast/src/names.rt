@@ -1,4 +1,4 @@
-// The paper's names of the commands.
+// The names of the commands, by paper and request 7.
 use report::number::count;
 use report::number::number;
 use report::number::put;
@@ -19,6 +19,7 @@ fn put_name(op: u8) {
         11 => put(b"BLOCKS"),
         12 => put(b"REVEAL"),
         13 => put(b"BITLT"),
+        14 => put(b"LTZS"),
         _ => number(b"byte ", words::wide(op)),
     }
 }
