@@ -16,7 +16,7 @@ use Rattle.model.specs.Steps.{plus, minus, times, constant, value, recor
 use Rattle.model.specs.Script.{byteSays, allPass, numberAt, readingAt, scriptFrom, scriptOf}
 use Rattle.model.specs.Costs.{costBy}
 use Rattle.model.specs.Sheet.{headerOf, headerSize, maskBits, largestIn, limits, impliedLength, scriptIn, rowsAt, masksFrom, triplesFrom, inputIn, dealIn, all, maskRows, tripleRows, spell, secrets, goodMask, goodTriple, headerTests, presentTests, limitTests, lengthTests, rowTests, sheetTests, bytesOf, shareBytes}
-use Rattle.model.specs.Commands.{throughLines, registersFrom, command}
+use Rattle.model.specs.Commands.{throughLines, registersFrom, signs, command}
 use Rattle.model.specs.Run.{allSet, marked, check, pay, runLines, nothingSpent, start, written, outcome, runScript, stopOf, run}
 use Rattle.model.specs.Calls.{isTEXTDATA, alone, plain, quoted, field, isEnd, fields, readLine, isDigit, allDigits, decimalFrom, time, lasting, call, fourFields, lineAt, lineNumber, taken, imported}
 use Rattle.model.specs.Columns.{sharesFrom, regrouped, transposed, columnForm, sheetForm, shapeTests, outputTests, turnTests, outputLeft, partOf, sharesIn}
@@ -62,7 +62,7 @@ unfolding byRows add sub mul allBelow from onto tab row modulus bits largestK in
 sheets-hold = after scripts-hold refl
 
 pub runs-hold : Hold runCases
-unfolding add sub mul allBelow from onto tab row modulus bits largestK inUse fieldTests settingTests inverse inversePowerOf2 parties bit presentIn absentIn everyone permittedSet openers eval share newton reciprocal slope interpolate recover secret valueFrom sameList isSharing number rowAt plus minus times constant value recorded byRows comparisonFrom comparison spelled remainder floor sign overStep blocks byteSays allPass numberAt readingAt scriptFrom scriptOf costBy headerOf headerSize maskBits largestIn limits impliedLength scriptIn rowsAt masksFrom triplesFrom inputIn dealIn all maskRows tripleRows spell secrets goodMask goodTriple firstFailed headerTests presentTests limitTests lengthTests rowTests sheetTests bytesOf shareBytes allSet marked check pay registersFrom command throughLines runLines nothingSpent start written outcome runScript stopOf run registersSeen seen runCases
+unfolding add sub mul allBelow from onto tab row modulus bits largestK inUse fieldTests settingTests inverse inversePowerOf2 parties bit presentIn absentIn everyone permittedSet openers eval share newton reciprocal slope interpolate recover secret valueFrom sameList isSharing number rowAt plus minus times constant value recorded byRows comparisonFrom comparison spelled remainder floor sign overStep blocks byteSays allPass numberAt readingAt scriptFrom scriptOf costBy headerOf headerSize maskBits largestIn limits impliedLength scriptIn rowsAt masksFrom triplesFrom inputIn dealIn all maskRows tripleRows spell secrets goodMask goodTriple firstFailed headerTests presentTests limitTests lengthTests rowTests sheetTests bytesOf shareBytes allSet marked check pay registersFrom signs command throughLines runLines nothingSpent start written outcome runScript stopOf run registersSeen seen runCases
 runs-hold = after sheets-hold refl
 
 pub presents-hold : Hold presentCases
@@ -70,7 +70,7 @@ unfolding add sub mul allBelow from onto tab row modulus bits largestK inUse fie
 presents-hold = after runs-hold refl
 
 pub masked-hold : Hold maskCases
-unfolding add sub mul allBelow from onto tab row modulus bits largestK inUse fieldTests settingTests inverse inversePowerOf2 parties bit presentIn absentIn everyone permittedSet openers eval share newton reciprocal slope interpolate recover secret valueFrom sameList isSharing number rowAt plus minus times constant value recorded byRows comparisonFrom comparison spelled remainder floor sign overStep blocks byteSays allPass numberAt readingAt scriptFrom scriptOf costBy headerOf headerSize maskBits largestIn limits impliedLength scriptIn rowsAt masksFrom triplesFrom inputIn dealIn all maskRows tripleRows spell secrets goodMask goodTriple firstFailed headerTests presentTests limitTests lengthTests rowTests sheetTests bytesOf shareBytes allSet marked check pay registersFrom command throughLines runLines nothingSpent start written outcome runScript stopOf run registersSeen seen maskCases
+unfolding add sub mul allBelow from onto tab row modulus bits largestK inUse fieldTests settingTests inverse inversePowerOf2 parties bit presentIn absentIn everyone permittedSet openers eval share newton reciprocal slope interpolate recover secret valueFrom sameList isSharing number rowAt plus minus times constant value recorded byRows comparisonFrom comparison spelled remainder floor sign overStep blocks byteSays allPass numberAt readingAt scriptFrom scriptOf costBy headerOf headerSize maskBits largestIn limits impliedLength scriptIn rowsAt masksFrom triplesFrom inputIn dealIn all maskRows tripleRows spell secrets goodMask goodTriple firstFailed headerTests presentTests limitTests lengthTests rowTests sheetTests bytesOf shareBytes allSet marked check pay registersFrom signs command throughLines runLines nothingSpent start written outcome runScript stopOf run registersSeen seen maskCases
 masked-hold = after presents-hold refl
 
 pub cases : Cases
