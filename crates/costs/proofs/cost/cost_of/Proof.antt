@@ -79,7 +79,7 @@ sub-of-masks c = let r = ranged _ _ (c .before .before .before .pre .2) (c .befo
 of-masks-requires : tie.Need-of-masks-requires
 of-masks-requires c κs =
     let r = ranged _ _ (c .before .before .before .pre .2) (c .before .c14 .given .1) in
-    (omega arith, r .1 .0, omega (arith, r .1 .1 .1 .1 .0), omega (arith, r .1 .1 .1 .1 .1 .0))
+    (omega arith, omega (arith, r .1 .0), omega (arith, r .1 .1 .1 .1 .0), omega (arith, r .1 .1 .1 .1 .1 .0))
 
 on-stretches-requires : tie.Need-on-stretches-requires
 on-stretches-requires c κs = let r = ranged _ _ (c .before .before .before .before .pre .2) (c .before .before .c14 .given .1) in (r .1 .1 .0, r .1 .1 .1 .0)
