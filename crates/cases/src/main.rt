@@ -9,44 +9,53 @@ ghost use Rattle.model.specs.Bytes as Bytes;
 use machine::run;
 use outcome::outcome;
 
+// Case by case, so that no list has to take them all.
 fn main() {
-    let mut input = [0u8; 800000];
-    let got = io::read_full(0, &mut input);
-    run_cases(&input[..got]);
-}
-
-fn run_cases(s: &[u8]) {
-    let mut at = 0;
-    while at < s.len() {
-        let passed = run_case(&s[at..]);
-        if passed == 0 {
+    let mut left = 100000usize;
+    while 0 < left {
+        if !run_case() {
             return;
         }
-        at += passed;
+        left -= 1;
     }
 }
 
-// Answers how many bytes the case has, and 0 where they are not all there or a length is too large.
-fn run_case(s: &[u8]) -> usize
-    ensures { λ r. ⌜ r ≤ length (now (s .entry)) ⌝ }
-{
-    if s.len() < 13 {
-        return 0;
+// Whether there was a case: it ends where bytes are missing or a length is too large.
+fn run_case() -> bool {
+    let mut head = [0u8; 13];
+    if io::read_full(0, &mut head) < 13 {
+        return false;
     }
-    let sheet = length_at(s, 0);
-    let log = length_at(s, 4);
-    let revealed = length_at(s, 8);
-    if s.len() - 13 < sheet {
-        return 0;
+    let sheet = length_at(&head[..], 0);
+    let log = length_at(&head[..], 4);
+    let revealed = length_at(&head[..], 8);
+    if 60000 < sheet {
+        return false;
     }
     if 12000 < log {
-        return 0;
+        return false;
     }
     if 600 < revealed {
-        return 0;
+        return false;
     }
-    run_sheet(&s[13..13 + sheet], s[12], log, revealed);
-    13 + sheet
+    read_sheet(sheet, head[12], log, revealed)
+}
+
+fn read_sheet(size: usize, present: u8, log: usize, revealed: usize) -> bool
+    requires { ⌜ (size ≤ 60000) × (log ≤ 12000) × (revealed ≤ 600) ⌝ }
+{
+    let mut room = [0u8; 60000];
+    read_into(&mut room[..], size, present, log, revealed)
+}
+
+fn read_into(room: &mut [u8], size: usize, present: u8, log: usize, revealed: usize) -> bool
+    requires { ⌜ (size ≤ length (now room)) × (log ≤ 12000) × (revealed ≤ 600) ⌝ }
+{
+    if io::read_full(0, &mut room[..size]) < size {
+        return false;
+    }
+    run_sheet(&room[..size], present, log, revealed);
+    true
 }
 
 fn length_at(s: &[u8], i: usize) -> usize
