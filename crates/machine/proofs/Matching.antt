@@ -6,7 +6,7 @@ use Prim.Native.Nat.{ℕ, _+_, _-_, _*_, _^_, _≤_, _<_}
 use native.Mathlib.Omega.{arith}
 use lib.ListN.{length, drop}
 use Rattle.model.specs.Bytes.{sevens}
-use Rattle.model.specs.Steps.{Row, product, comparison}
+use Rattle.model.specs.Steps.{product, comparison}
 use Rattle.model.specs.Counts.{Counts}
 use Rattle.model.specs.Script as Paper
 use Rattle.model.specs.Script.{MUL, REVEAL, BITLT, LTZS, ranges}
@@ -26,15 +26,14 @@ use Rattle.steps.specs.declared.cut.Cut.{Cut}
 use Rattle.steps.specs.Places.{Room}
 use Rattle.steps.specs.Promises.{StepLeaves}
 use Rattle.steps.specs.Cuts.{CutRoom, CutLeaves}
-use Rattle.algebra.specs.Lists.{Below, ontoAt}
+use Rattle.algebra.specs.Lists.{Below}
 use Rattle.machine.specs.Cells.{registerIn, Stored, Revealed}
-use Rattle.machine.proofs.Cells.{stored}
 use Rattle.machine.specs.Places.{placesOf, Reached}
 use Rattle.machine.specs.declared.table.Table.{Table}
 use Rattle.machine.specs.Holding.{Lent, lent, Ready, Performs, CutReady, SignsReady, OnCells}
 use Rattle.machine.specs.Answers.{Payable, Finishes}
 use Rattle.machine.proofs.Readiness as Readiness
-use Rattle.machine.proofs.Performing.{multiply-performs, compare-performs, reveal-performs, cutCommand, cut-ready, cut-performs}
+use Rattle.machine.proofs.Performing.{multiply-performs, compare-performs, reveal-performs, cutCommand, cut-ready, cut-room, cut-performs}
 
 -- where a ready command reads and writes next can be computed
 pub reached : {s : List ℕ} {f : Frame} {k : Counts} {c : Paper.Command} {m : Lent} → Ready s f k c m → length s < 2 ^ 64 → length (m .log) < 2 ^ 64 → Reached f k
@@ -113,19 +112,12 @@ module _ {s : List ℕ} {f : Frame} {k : Counts} {c : Command} {m : Lent} {S : S
       is-cut : CutReady s f k (m .cells) (m .log) d a y
       is-cut = cut-ready y (rw is at ready)
 
-      pub cut-asks : length (m .cells) ≡ 448 → CutRoom s (m .log) S at y × (length (m .cells) ≡ 448) × (a < 64)
-      cut-asks size =
-          let R = is-cut in
-          (rw (K .setting, K .places) (Readiness.masked-room (R .framed) k (m .log) _ _ (R .width) (R .least) (R .less) (R .mask) (R .triples) (R .openings)), size, R .a-in)
+      pub cut-asks : CutRoom s (m .log) S at y × (d < 64) × (a < 64)
+      cut-asks = let R = is-cut in (rw (K .setting, K .places) (cut-room {m = m} R), R .d-in, R .a-in)
 
-      pub cut-goes : d < 64
-      cut-goes = is-cut .d-in
-
-      pub cut-done : {row : Row} {cells log : List ℕ} → length row ≡ 7 → CutLeaves s S at y (registerIn (m .cells) a) row (m .log) log
-          → cells ≡ ontoAt (7 * d) row (m .cells) → Performs s f k (meant c) m (lent cells log (m .shown))
-      cut-done {row} {log = log} seven L put =
-          let P : Stored d (λ z. CutLeaves s S at y (registerIn (m .cells) a) z (m .log) log) (m .cells) _ = stored row seven L put in
-          done (rw is (cut-performs is-cut (rw (K .setting, K .places) at P)))
+      pub cut-done : {cells log : List ℕ} → Stored d (λ z. CutLeaves s S at y (registerIn (m .cells) a) z (m .log) log) (m .cells) cells
+          → Performs s f k (meant c) m (lent cells log (m .shown))
+      cut-done P = done (rw is (cut-performs is-cut (rw (K .setting, K .places) at P)))
 
 -- performed, and its cost paid
 pub finishes : {s : List ℕ} {f : Frame} {c : Paper.Command} {need : Cost} {t t₁ t₂ : Table} {log shown log′ shown′ : List ℕ} → Payable f c need t → t₁ .spent ≡ t .spent

@@ -18,17 +18,17 @@ use Rattle.model.specs.Run.{State, register}
 use Rattle.model.proofs.Operands.{operands}
 use Rattle.model.proofs.StepLaws.{made, Puts, product-does, comparison-does, remainder-does, floor-does, sign-does, over-does, blocks-does}
 use Rattle.sheet.specs.declared.frame.Frame.{Frame}
-use Rattle.sheet.specs.Framed.{settingFrom, settingIn, Framed}
+use Rattle.sheet.specs.Framed.{settingFrom, settingIn}
 use Rattle.steps.specs.declared.cut.Cut.{Cut}
 use Rattle.steps.specs.declared.cut.Cut.the-variants.{Mod, Trunc, Ltz, Over, Blocks}
 use Rattle.steps.specs.Promises.{StepLeaves, MaskedLeaves, Left}
-use Rattle.steps.specs.Cuts.{widthOf, lowOf, cutStep, CutLeaves}
+use Rattle.steps.specs.Cuts.{widthOf, lowOf, cutStep, CutRoom, CutLeaves}
 use Rattle.machine.specs.Cells.{registerIn, Stored, Revealed}
 use Rattle.machine.specs.Places.{inputPlace, placesOf}
 use Rattle.machine.specs.Holding.{Lent, lent, Carries, Counting, Ready, Performs, CutReady, inputsOf}
 use Rattle.machine.proofs.Cells.{from-sevens}
 use Rattle.machine.proofs.Keeping.{register-is, log-more, log-same, carries-put, carries-reveal}
-use Rattle.machine.proofs.Readiness.{input-at, dealt, mask-next}
+use Rattle.machine.proofs.Readiness.{input-at, dealt, mask-next, masked-room}
 
 -- the record's next place
 log-place : {s : List ℕ} {f : Frame} {k : Counts} {x : State} → Counting s f k x → placesOf f k .log ≡ length (written (settingIn f) (x .opened))
@@ -184,6 +184,9 @@ module _ {s : List ℕ} {f : Frame} {k : Counts} {m : Lent} {d a : ℕ} where
   cut-ready (Ltz w) R = let r = operands (f .p) (f .largest) (LTZ d a w) (R .ranged) in with-m (Ltz w) R refl (r .0) (r .1 .0) (r .1 .1 .1 .0) (omega (arith, r .1 .1 .0)) (omega (arith, r .1 .1 .0))
   cut-ready (Over w v) R = let r = operands (f .p) (f .largest) (OVER d a w v) (R .ranged) in with-m (Over w v) R refl (r .0) (r .1 .0) (r .1 .1 .1 .0) (omega (arith, r .1 .1 .0)) (omega (arith, r .1 .1 .0))
   cut-ready (Blocks w l) R = let r = operands (f .p) (f .largest) (BLOCKS d a w l) (R .ranged) in with-m (Blocks w l) R refl (r .0) (r .1 .0) (r .1 .1 .1 .0) (r .1 .1 .1 .1 .0) (r .1 .1 .1 .1 .1 .0)
+
+  pub cut-room : {y : Cut} → CutReady s f k (m .cells) (m .log) d a y → CutRoom s (m .log) (settingFrom f) (placesOf f k) y
+  cut-room R = masked-room (R .framed) k (m .log) _ _ (R .width) (R .least) (R .less) (R .mask) (R .triples) (R .openings)
 
   pub cut-performs : {y : Cut} {cells log : List ℕ} → CutReady s f k (m .cells) (m .log) d a y
       → Stored d (λ z. CutLeaves s (settingFrom f) (placesOf f k) y (registerIn (m .cells) a) z (m .log) log) (m .cells) cells

@@ -10,11 +10,12 @@ use Rattle.algebra.specs.Lists.{first, ontoAt}
 use Rattle.model.specs.Deal.{Row}
 use Rattle.model.specs.Steps.{sign, written}
 use Rattle.model.specs.Counts.{Counts, added}
-use Rattle.model.specs.Costs.{ofMask, modTriples, costBy}
+use Rattle.model.specs.Costs.{ofMask, ofMasks, modTriples, costBy}
 use Rattle.model.specs.Script.{LTZ, LTZS}
 use Rattle.model.specs.Run.{State, register, pay, finish}
-use Rattle.model.specs.Stretches.{ltzs, finishes}
+use Rattle.model.specs.Stretches.{risingLTZ, finishAll}
 use Rattle.model.proofs.Taking.{Used, used-then, took-sign}
+use Rattle.model.proofs.Counts.{same-counts}
 use Rattle.model.proofs.SheetDeal.{length-at}
 use Rattle.model.proofs.Written.{length-written, written-append}
 use Rattle.model.proofs.Operands.{operands}
@@ -31,8 +32,8 @@ use Rattle.machine.specs.Cells.{registerIn, Stored}
 use Rattle.machine.specs.Places.{placesOf, Reached}
 use Rattle.machine.specs.Holding.{lent, Carries, Counting, Performs, CutReady, SignsReady, OnCells, inputsOf, dealOf}
 use Rattle.machine.proofs.Cells.{stored, whole-row}
-use Rattle.machine.proofs.Readiness.{field-of, fitting, reached, masked-room, mask-next}
-use Rattle.machine.proofs.Performing.{cut-performs}
+use Rattle.machine.proofs.Readiness.{field-of, fitting, reached, mask-next}
+use Rattle.machine.proofs.Performing.{cut-room, cut-performs}
 
 -- one LTZ
 module _ {s : List ℕ} {f : Frame} {k : Counts} {d a w : ℕ} where
@@ -42,7 +43,7 @@ module _ {s : List ℕ} {f : Frame} {k : Counts} {d a w : ℕ} where
 
     pub sign-asks : {S : Setting} {at : Places} → S ≡ settingFrom f → at ≡ placesOf f k → CutRoom s log S at (Ltz w) × (length cells ≡ 448) × (a < 64)
     sign-asks es ea =
-        (rw (es, ea) (masked-room (R .framed) k log _ _ (R .width) (R .least) (R .less) (R .mask) (R .triples) (R .openings)), R .size, R .a-in)
+        (rw (es, ea) (cut-room {m = lent cells log []} {y = Ltz w} R), R .size, R .a-in)
 
     pub sign-done : {S : Setting} {at : Places} {row : Row} {cells′ log′ : List ℕ} → S ≡ settingFrom f → at ≡ placesOf f k → length row ≡ 7
         → CutLeaves s S at (Ltz w) (registerIn cells a) row log log′ → cells′ ≡ ontoAt (7 * d) (take 7 row) cells → OnCells s f k (LTZ d a w) cells log cells′ log′
@@ -70,38 +71,21 @@ module _ {s : List ℕ} {f : Frame} {k : Counts} {d a w : ℕ} where
           shown = omega (arith, C .shown);
         })
 
--- so much is spent after i of them, where k was spent before
-unfoldable pub spentAfter : Counts → ℕ → ℕ → Counts
-spentAfter k t zero = k
-spentAfter k t (suc i) = added (spentAfter k t i) (ofMask t)
+-- what one sign more spends
+spent-more : (k : Counts) (t i : ℕ) → added (added k (ofMasks i t)) (ofMask t) ≡ added k (ofMasks (suc i) t)
+spent-more k t i =
+    same-counts {x = added (added k (ofMasks i t)) (ofMask t)} {y = added k (ofMasks (suc i) t)} (omega arith) (omega arith) (omega arith) (omega arith) (omega arith)
 
-record Sums (k : Counts) (t i : ℕ) : Type 0 where
-  pub masks : spentAfter k t i .masks ≡ k .masks + i
-  pub triples : spentAfter k t i .triples ≡ k .triples + i * t
-  pub openings : spentAfter k t i .openings ≡ k .openings + i * (1 + 2 * t)
-  pub inputs : spentAfter k t i .inputs ≡ k .inputs
-  pub revealed : spentAfter k t i .revealed ≡ k .revealed
-
-sums : (k : Counts) (t i : ℕ) → Sums k t i
-unfolding spentAfter
-sums k t zero = record { masks = omega arith; triples = omega arith; openings = omega arith; inputs = refl; revealed = refl }
-sums k t (suc i) =
-    let I = sums k t i in
-    record {
-      masks = omega (arith, I .masks);
-      triples = omega (arith, I .triples);
-      openings = omega (arith, I .openings);
-      inputs = omega (arith, I .inputs);
-      revealed = omega (arith, I .revealed);
-    }
+spent-none : (k : Counts) (t : ℕ) → k ≡ added k (ofMasks 0 t)
+spent-none k t = same-counts {x = k} {y = added k (ofMasks 0 t)} (omega arith) (omega arith) (omega arith) (omega arith) (omega arith)
 
 -- After i turns: so much is spent, and what is lent holds the state after i LTZ. cells₀ and log₁ are what was lent.
 pub record Turned (s : List ℕ) (f : Frame) (k : Counts) (d a w : ℕ) (cells₀ log₁ : List ℕ) (i : ℕ) (spent : Counts) (cells log : List ℕ) : Type 0 where
   pub size : length cells ≡ 448
   pub long : length log ≡ length log₁
-  pub spent-is : spent ≡ spentAfter k (modTriples (f .l) (w - 1)) i
+  pub spent-is : spent ≡ added k (ofMasks i (modTriples (f .l) (w - 1)))
   pub holds : (shown log₀ shown₀ : List ℕ) (x : State) → Counting s f k x → Carries (settingIn f) log₀ shown₀ (lent cells₀ log₁ shown) x
-      → (let y = finishes (settingIn f) (inputsOf s f) (ltzs d a i w) x in Counting s f spent y × Carries (settingIn f) log₀ shown₀ (lent cells log shown) y)
+      → (let y = finishAll (settingIn f) (inputsOf s f) (risingLTZ d a i w) x in Counting s f spent y × Carries (settingIn f) log₀ shown₀ (lent cells log shown) y)
 
 module _ {s : List ℕ} {f : Frame} {k : Counts} {d a h w : ℕ} {cells₀ log₁ : List ℕ} (R : SignsReady s f k cells₀ log₁ d a h w) where
   pub signs-k : (f .l ≤ 31) × (1 ≤ w) × (1 ≤ w - 1) × (w - 1 ≤ 30)
@@ -111,15 +95,14 @@ module _ {s : List ℕ} {f : Frame} {k : Counts} {d a h w : ℕ} {cells₀ log�
       (fitting (R .framed) .bits, omega (arith, r .1 .1 .1 .1 .0), omega (arith, r .1 .1 .1 .1 .0), omega (arith, r .1 .1 .1 .1 .1 .0, F .k-most))
 
   pub turned-start : Turned s f k d a w cells₀ log₁ 0 k cells₀ log₁
-  unfolding spentAfter ltzs finishes
-  turned-start = record { size = R .size; long = refl; spent-is = refl; holds = λ shown log₀ shown₀ x C H. (C, H) }
+  unfolding risingLTZ finishAll
+  turned-start = record { size = R .size; long = refl; spent-is = spent-none k _; holds = λ shown log₀ shown₀ x C H. (C, H) }
 
   module _ {i : ℕ} {spent : Counts} {cells log : List ℕ} (T : Turned s f k d a w cells₀ log₁ i spent cells log) where
     pub turn-ready : i < h → CutReady s f spent cells log (d + i) (a + i) (Ltz w)
     turn-ready l =
         let r = operands (f .p) (f .largest) (LTZS d a h w) (R .ranged) in
         let t = modTriples (f .l) (w - 1) in
-        let I = sums k t i in
         let x : suc i * t ≤ h * t = mul-le-mul-right t l in
         let y : suc i * (1 + 2 * t) ≤ h * (1 + 2 * t) = mul-le-mul-right (1 + 2 * t) l in
         let z : (k .openings + suc i * (1 + 2 * t)) * f .n ≤ (k .openings + h * (1 + 2 * t)) * f .n = mul-le-mul-right (f .n) (omega arith) in
@@ -131,26 +114,21 @@ module _ {s : List ℕ} {f : Frame} {k : Counts} {d a h w : ℕ} {cells₀ log�
           width = r .1 .1 .1 .1 .1 .0;
           least = omega (arith, r .1 .1 .1 .1 .0);
           less = omega (arith, r .1 .1 .1 .1 .0);
-          mask = rw (T .spent-is) (omega (arith, I .masks, R .masks));
-          triples = rw (T .spent-is) (omega (arith, I .triples, R .triples));
-          openings = rw (T .spent-is, I .openings) (omega (arith, R .room, T .long));
+          mask = rw (T .spent-is) (omega (arith, R .masks));
+          triples = rw (T .spent-is) (omega (arith, R .triples));
+          openings = rw (T .spent-is) (omega (arith, R .room, T .long));
         }
-
-    -- the registers and the sums of a turn are numbers of the code
-    pub turn-registers : i < h → (d + i < 64) × (a + i < 64)
-    turn-registers l = (turn-ready l .d-in, turn-ready l .a-in)
 
     pub turned-more : i < h → {spent′ : Counts} {cells′ log′ : List ℕ} → length cells′ ≡ length cells → length log′ ≡ length log
         → spent′ ≡ added spent (ofMask (modTriples (f .l) (w - 1))) → OnCells s f spent (LTZ (d + i) (a + i) w) cells log cells′ log′
         → Turned s f k d a w cells₀ log₁ (i + 1) spent′ cells′ log′
-    unfolding spentAfter
     turned-more l {spent′} {cells′} {log′} ec el e P =
         let n : suc i ≡ i + 1 = omega arith in
         rw (← n)
         (record {
           size = ec ∙ T .size;
           long = el ∙ T .long;
-          spent-is = e ∙ ap (λ (v : Counts). added v (ofMask (modTriples (f .l) (w - 1)))) (T .spent-is);
+          spent-is = e ∙ ap (λ (v : Counts). added v (ofMask (modTriples (f .l) (w - 1)))) (T .spent-is) ∙ spent-more k (modTriples (f .l) (w - 1)) i;
           holds = λ shown log₀ shown₀ x C H.
               let y = T .holds shown log₀ shown₀ x C H in
               rw (e, finishes-last (settingIn f) (inputsOf s f) d a i w x) (counted-more (turn-ready l) (y .0), P shown log₀ shown₀ _ (y .0) (y .1));
@@ -161,14 +139,13 @@ module _ {s : List ℕ} {f : Frame} {k : Counts} {d a h w : ℕ} {cells₀ log�
         → Summing x y
     turn-sums l e hi hm ht hl =
         let C = turn-ready T l in
-        let I = sums k (modTriples (f .l) (w - 1)) i in
         let o : (x .openings + (1 + 2 * modTriples (f .l) (w - 1))) ≤ (x .openings + (1 + 2 * modTriples (f .l) (w - 1))) * f .n = at-least _ (f .n) (omega (arith, R .framed .headed .parties .least)) in
         record {
-          inputs = rw (ap (λ (v : Counts). v .inputs) e) (omega (arith, ap (λ (v : Counts). v .inputs) (T .spent-is), I .inputs));
+          inputs = rw (ap (λ (v : Counts). v .inputs) e) (omega (arith, ap (λ (v : Counts). v .inputs) (T .spent-is)));
           masks = rw (ap (λ (v : Counts). v .masks) e) (omega (arith, C .mask));
           triples = rw (ap (λ (v : Counts). v .triples) e) (omega (arith, C .triples));
           openings = rw (ap (λ (v : Counts). v .openings) e) (omega (arith, C .openings, o));
-          revealed = rw (ap (λ (v : Counts). v .revealed) e) (omega (arith, ap (λ (v : Counts). v .revealed) (T .spent-is), I .revealed, R .revealed));
+          revealed = rw (ap (λ (v : Counts). v .revealed) e) (omega (arith, ap (λ (v : Counts). v .revealed) (T .spent-is), R .revealed));
         }
       where
         at-least : (v n : ℕ) → 1 ≤ n → v ≤ v * n

@@ -6,7 +6,7 @@ ghost use Rattle.model.specs.Script.{LTZ, LTZS};
 ghost use Rattle.costs.specs.Costing.{countsOf};
 ghost use Rattle.steps.specs.declared.cut.Cut.the-variants.{Ltz};
 ghost use Rattle.steps.specs.Cuts.{CutRoom, CutLeaves};
-ghost use Rattle.machine.specs.Cells.{registerIn};
+ghost use Rattle.machine.specs.Cells.{registerIn, Stored};
 ghost use Rattle.machine.specs.Holding.{CutReady, SignsReady, OnCells};
 use crate::table::Table;
 use crate::table::places_of;
@@ -22,7 +22,7 @@ use steps::cut::Cut;
 use steps::places::Places;
 
 // The row that a cut of register a leaves, of a table's cells, which are lent.
-pub fn cut_from(
+fn cut_from(
     setting: Setting,
     at: Places,
     s: &[u8],
@@ -82,7 +82,25 @@ fn signs_in(
 }
 
 impl Table {
-    // LTZS d a h k. The cells are copied once, since those of a table cannot be lent to be written.
+    // A cut of register a goes to register d.
+    pub fn cut(
+        self,
+        setting: Setting,
+        at: Places,
+        s: &[u8],
+        log: &mut [u32],
+        d: usize,
+        a: usize,
+        c: Cut,
+    ) -> Table
+        requires { ⌜ CutRoom (now s) (now log) setting at c × (d < 64) × (a < 64) ⌝ }
+        ensures { λ r. ⌜ Stored d (λ z. CutLeaves (now (s .entry)) setting at c (registerIn (self .cells) a) z (now (log .entry)) (now (log .exit))) (self .cells) (r .cells) × (r .spent ≡ self .spent) ⌝ }
+    {
+        let row = cut_from(setting, at, s, log, &self.cells[..], a, c);
+        self.put(d, row)
+    }
+
+    // LTZS d a h k. The cells are copied out and back, once for all signs, since those of a table cannot be lent to be written.
     pub fn signs(
         mut self,
         f: Frame,

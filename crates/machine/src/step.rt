@@ -4,7 +4,6 @@ ghost use Rattle.script.specs.Meaning.{meant};
 ghost use Rattle.costs.specs.Costing.{countsOf};
 ghost use Rattle.machine.specs.Holding.{lent, Ready, Performs};
 ghost use Rattle.machine.specs.Answers.{Payable, Finishes};
-use crate::cutting::cut_from;
 use crate::table::Table;
 use crate::table::places_of;
 use costs::cost::Cost;
@@ -28,34 +27,27 @@ impl Table {
             Command::Sub { d, a, b } => self.sub(setting, d, a, b),
             Command::Scale { d, a, v } => self.scale(setting, d, a, v),
             Command::Mul { d, a, b } => self.multiply(setting, at, s, log, d, a, b),
-            Command::Mod { d, a, k, m } => {
-                let row = cut_from(setting, at, s, log, &self.cells[..], a, Cut::Mod { k, m });
-                self.put(d, row)
-            }
-            Command::Trunc { d, a, k, m } => {
-                let row = cut_from(setting, at, s, log, &self.cells[..], a, Cut::Trunc { k, m });
-                self.put(d, row)
-            }
-            Command::Ltz { d, a, k } => {
-                let row = cut_from(setting, at, s, log, &self.cells[..], a, Cut::Ltz { k });
-                self.put(d, row)
-            }
-            Command::Over { d, a, k, v } => {
-                let row = cut_from(setting, at, s, log, &self.cells[..], a, Cut::Over { k, v });
-                self.put(d, row)
-            }
-            Command::Blocks { d, a, k, m } => {
-                let row = cut_from(
-                    setting,
-                    at,
-                    s,
-                    log,
-                    &self.cells[..],
-                    a,
-                    Cut::Blocks { k, m },
-                );
-                self.put(d, row)
-            }
+            Command::Mod { d, a, k, m } => self.cut(setting, at, s, log, d, a, Cut::Mod { k, m }),
+            Command::Trunc { d, a, k, m } => self.cut(
+                setting,
+                at,
+                s,
+                log,
+                d,
+                a,
+                Cut::Trunc { k, m },
+            ),
+            Command::Ltz { d, a, k } => self.cut(setting, at, s, log, d, a, Cut::Ltz { k }),
+            Command::Over { d, a, k, v } => self.cut(setting, at, s, log, d, a, Cut::Over { k, v }),
+            Command::Blocks { d, a, k, m } => self.cut(
+                setting,
+                at,
+                s,
+                log,
+                d,
+                a,
+                Cut::Blocks { k, m },
+            ),
             Command::Reveal { a } => self.reveal(setting, at, log, revealed, a),
             Command::Bitlt { d, b, w, v } => self.compare(setting, at, s, log, d, b, w, v),
             Command::Ltzs { d, a, h, k } => self.signs(f, s, log, d, a, h, k),

@@ -69,6 +69,9 @@ one-fails ts h = sym (is-false _ (λ t. h (all-said ts t)))
 pub operands : (p K : ℕ) (c : Command) → T (inRanges p K c) → AllSay (ranges p K c)
 operands p K c h = all-said (ranges p K c) h
 
+pub in-ranges : (p K : ℕ) (c : Command) → AllSay (ranges p K c) → T (inRanges p K c)
+in-ranges p K c h = all-pass (ranges p K c) h
+
 -- the operands k and m in their ranges: of MOD, TRUNC and BLOCKS, and of LTZ and OVER with m = k − 1
 pub record Ranges (K k m : ℕ) : Type 0 where
   pub k-most : k ≤ K

@@ -25,11 +25,11 @@ length-wrote kept = (refl, refl)
 length-wrote {g} {g′} (puts {d = d} e W) = let l = length-wrote W in (l .0 ∙ length-set g d _, l .1 ∙ length-set g′ d _)
 
 -- both ends have the same in the registers that were written, and in those where the same stood
-wrote-same : {g g′ w w′ : List Row} {ds : List ℕ} → Wrote _≡_ g g′ ds w w′ → (r : ℕ) → In r ds ⊎ (getD g r noRow ≡ getD g′ r noRow) → r < length w → r < length w′
+wrote-there : {g g′ w w′ : List Row} {ds : List ℕ} → Wrote _≡_ g g′ ds w w′ → (r : ℕ) → In r ds ⊎ (getD g r noRow ≡ getD g′ r noRow) → r < length w → r < length w′
     → getD w r noRow ≡ getD w′ r noRow
-wrote-same kept r (inl i) h h′ = absurd (List·Memᴰ·not-nil i)
-wrote-same kept r (inr e) h h′ = e
-wrote-same {g} {g′} (puts {d = d} {ds = ds} {z} {z′} e W) r i h h′ = wrote-same W r (so (ℕ-discrete r d) i) h h′
+wrote-there kept r (inl i) h h′ = absurd (List·Memᴰ·not-nil i)
+wrote-there kept r (inr e) h h′ = e
+wrote-there {g} {g′} (puts {d = d} {ds = ds} {z} {z′} e W) r i h h′ = wrote-there W r (so (ℕ-discrete r d) i) h h′
   where
     so : Dec (r ≡ d) → In r (d ∷ ds) ⊎ (getD g r noRow ≡ getD g′ r noRow) → In r ds ⊎ (getD (set g d z) r noRow ≡ getD (set g′ d z′) r noRow)
     so (yes q) x =
@@ -42,7 +42,7 @@ wrote-same {g} {g′} (puts {d = d} {ds = ds} {z} {z′} e W) r i h h′ = wrote
 same-work : (S : Setting) (c : Command) {g g′ : List Row} {T T′ : Tree Row (List Row)} → Ends (Wrote _≡_ g g′ (target c)) T T′
     → (os : List Row) (vs : List ℕ) (d : Deal) → SameWork c (after os vs (byRows S T d)) (after os vs (byRows S T′ d))
 unfolding byRows
-same-work S c (ends W) os vs d = record { opened = refl; shown = refl; deal = refl; written = λ r i h h′. wrote-same W r (inl i) h h′ }
+same-work S c (ends W) os vs d = record { opened = refl; shown = refl; deal = refl; written = λ r i h h′. wrote-there W r (inl i) h h′ }
 
 pub reads-only : ReadsOnly
 reads-only S input j c g g′ d reads =

@@ -1,30 +1,30 @@
 -- LTZS is h LTZ in rising order: shown of one register more, by what a sign leaves, and so of h.
 -- Assumes nothing.
 use mathlib.Core.Path.{_≡_, refl, sym, ap, ap₂, _∙_}
+use mathlib.Core.Logic.{inl, inr}
 use mathlib.Core.Bool.{Bool, true, false, _&&_}
 use mathlib.Core.List.{List, [], _∷_, _++_, map, append-assoc, append-nil, List·Memᴰ as In, List·Memᴰ·head as here, List·Memᴰ·tail as there}
 use Prim.Native.Nat.{ℕ, zero, suc, _+_, _≤_, _<_}
-use native.Mathlib.Decide.{ℕ-discrete, decLt}
+use native.Mathlib.Decide.{decLt}
 use native.Mathlib.Omega.{arith}
 use lib.Dec.{T}
 use lib.ListN.{getD, set}
 use lib.Seq.{getD-set-other}
-use Rattle.algebra.specs.Lists.{from}
+use Rattle.algebra.specs.Lists.{All, none, one, from}
 use Rattle.algebra.proofs.Lists.{in-from, from-in}
 use Rattle.algebra.proofs.Tests.{and-left, and-right, and-both}
 use Rattle.model.specs.Deal.{Setting, Row, Deal, noRow}
 use Rattle.model.specs.Trees.{done}
-use Rattle.model.specs.Trees as Trees
-use Rattle.model.specs.Steps.{Worked, after, rowOps, byRows, Step, sign}
-use Rattle.model.specs.Script.{Command, LTZ, LTZS, Line, equalOrApart, passes, inRanges}
+use Rattle.model.specs.Steps.{after, byRows, sign}
+use Rattle.model.specs.Script.{Command, LTZ, LTZS, Line, inRanges}
 use Rattle.model.specs.Counts.{added}
 use Rattle.model.specs.Costs.{costBy, cost}
 use Rattle.model.specs.Commands.{registersFrom, signs, command}
 use Rattle.model.specs.Parts.{stepped}
 use Rattle.model.specs.Run.{Spent, Supply, State, register, rowCommand, allSet, marked, check, pay, perform, finish, runLines}
-use Rattle.model.specs.Stretches.{EqualOrApart, ltzs, finishes, AllFinish, AsSigns, Stretches}
+use Rattle.model.specs.Stretches.{risingLTZ, EqualOrApart, InRange, finishAll, AllFinish, AsSigns, Stretches}
 use Rattle.model.proofs.Trying.{given-done, given-refused}
-use Rattle.model.proofs.Operands.{Standing, equal, before, after as past, said, pass, operands}
+use Rattle.model.proofs.Operands.{Standing, equal, before, after as past, operands, in-ranges}
 use Rattle.model.proofs.Counts.{same-counts}
 use Rattle.model.proofs.Checks.{Passed, check-passed, passed-check}
 use Rattle.model.proofs.StepLaws.{sign-does, finish-put, run-line}
@@ -39,17 +39,40 @@ apart-stands d a h n = go (decLt a (d + h)) (decLt d (a + h)) (decLt d a)
     go (yes l) (yes m) (yes o) = absurd (n a (from-in d h a (omega arith) l) (from-in a h a (omega arith) (omega arith)))
     go (yes l) (yes m) (no o) = absurd (n d (from-in d h d (omega arith) (omega arith)) (from-in a h d (omega arith) m))
 
-stands-apart : (d a h : ℕ) → Standing d a h → (d ≡ a → ⊥) → (r : ℕ) → In r (from d h) → In r (from a h) → ⊥
-stands-apart d a h (equal e) n r i j = n e
-stands-apart d a h (before l) n r i j = omega (arith, in-from d h i, in-from a h j)
-stands-apart d a h (past l) n r i j = omega (arith, in-from d h i, in-from a h j)
+stands : (d a h : ℕ) → EqualOrApart d a h → Standing d a h
+stands d a h (inl e) = equal e
+stands d a h (inr n) = apart-stands d a h n
 
-tested : (d a h : ℕ) → EqualOrApart d a h
-tested d a h =
+equal-or-apart : (d a h : ℕ) → Standing d a h → EqualOrApart d a h
+equal-or-apart d a h (equal e) = inl e
+equal-or-apart d a h (before l) = inr λ r i j. omega (arith, in-from d h i, in-from a h j)
+equal-or-apart d a h (past l) = inr λ r i j. omega (arith, in-from d h i, in-from a h j)
+
+-- each of the h LTZ is in range: by the first and the last
+each-in : (p K d a h k : ℕ) → d + h ≤ 64 → a + h ≤ 64 → 2 ≤ k → k ≤ K → All (λ c. T (inRanges p K c)) (risingLTZ d a h k)
+unfolding risingLTZ
+each-in p K d a zero k hd ha low high = none
+each-in p K d a (suc h) k hd ha low high =
+    one (in-ranges p K (LTZ d a k) (omega arith, (omega arith, (low, (high, tt))))) (each-in p K (suc d) (suc a) h k (omega arith) (omega arith) low high)
+
+last-in : (p K d a h k : ℕ) → All (λ c. T (inRanges p K c)) (risingLTZ d a (suc h) k) → (d + suc h ≤ 64) × (a + suc h ≤ 64) × (2 ≤ k) × (k ≤ K)
+unfolding risingLTZ
+last-in p K d a zero k (one t ts) = let r = operands p K (LTZ d a k) t in (omega (arith, r .0), omega (arith, r .1 .0), r .1 .1 .0, r .1 .1 .1 .0)
+last-in p K d a (suc h) k (one t ts) = let r = last-in p K (suc d) (suc a) h k ts in (omega (arith, r .0), omega (arith, r .1), r .2, r .3)
+
+let-through : (p K d a h k : ℕ) → 1 ≤ h → h ≤ 16 → All (λ c. T (inRanges p K c)) (risingLTZ d a h k) → EqualOrApart d a h → T (inRanges p K (LTZS d a h k))
+let-through p K d a zero k low high each S = absurd (omega arith)
+let-through p K d a (suc h) k low high each S =
+    let r = last-in p K d a h k each in
+    in-ranges p K (LTZS d a (suc h) k) (low, (high, (r .0, (r .1, (r .2, (r .3, (stands d a (suc h) S, tt)))))))
+
+in-range : (p K d a h k : ℕ) → InRange p K d a h k
+in-range p K d a h k =
     record {
-      equal = λ e. pass (equalOrApart d a h) (equal e);
-      apart = λ n. pass (equalOrApart d a h) (apart-stands d a h n);
-      no-other = λ t. stands-apart d a h (said (equalOrApart d a h) t);
+      let-through = let-through p K d a h k;
+      count = λ t. let r = operands p K (LTZS d a h k) t in (r .0, r .1 .0);
+      each = λ t. let r = operands p K (LTZS d a h k) t in each-in p K d a h k (r .1 .1 .0) (r .1 .1 .1 .0) (r .1 .1 .1 .1 .0) (r .1 .1 .1 .1 .1 .0);
+      registers = λ t. equal-or-apart d a h (operands p K (LTZS d a h k) t .1 .1 .1 .1 .1 .1 .0);
     }
 
 -- the registers from a on, of which h are read one after the other, while those from d on are written: none is written before it is read
@@ -143,8 +166,8 @@ module _ (S : Setting) (k : ℕ) where
         → finish S input (LTZS d a (suc h) k) s ≡ finish S input (LTZS (suc d) (suc a) h k) (finish S input (LTZ d a k) s)
     more-finish d a h s R = more-stepped d a h s R ∙ ap (finish S input (LTZS (suc d) (suc a) h k)) (sym (ltz-finish d a s))
 
-    finishes-so : (d a h : ℕ) (s : State) → Rising d a h → finish S input (LTZS d a h k) s ≡ finishes S input (ltzs d a h k) s
-    unfolding ltzs finishes
+    finishes-so : (d a h : ℕ) (s : State) → Rising d a h → finish S input (LTZS d a h k) s ≡ finishAll S input (risingLTZ d a h k) s
+    unfolding risingLTZ finishAll
     finishes-so d a zero s R = none-finish d a s
     finishes-so d a (suc h) s R = more-finish d a h s R ∙ finishes-so (suc d) (suc a) h (finish S input (LTZ d a k) s) (rising-more R)
 
@@ -191,30 +214,31 @@ module _ (S : Setting) (k : ℕ) where
   unfolding costBy from
   one-passed u d a p P = record { reads = P .reads; inputs = P .inputs; masks = P .masks; triples = omega (arith, P .triples); room = omega (arith, P .room); shown = P .shown }
 
-  all-so : (u : Supply) (d a h : ℕ) (p : Spent) → Rising d a h → Passed u (cost S (LTZS d a h k)) p → AllFinish S u (ltzs d a h k) p
-  unfolding ltzs
+  all-so : (u : Supply) (d a h : ℕ) (p : Spent) → Rising d a h → Passed u (cost S (LTZS d a h k)) p → AllFinish S u (risingLTZ d a h k) p
+  unfolding risingLTZ
   all-so u d a zero p R P = tt
   all-so u d a (suc h) p R P =
       (passed-check u _ p (first-passed u d a h p P), all-so u (suc d) (suc a) h _ (rising-more R) (others-passed u d a h p R P))
 
   -- of one register at least
-  only-so : (u : Supply) (d a h : ℕ) (p : Spent) → Rising d a (suc h) → AllFinish S u (ltzs d a (suc h) k) p → Passed u (cost S (LTZS d a (suc h) k)) p
-  unfolding ltzs
+  only-so : (u : Supply) (d a h : ℕ) (p : Spent) → Rising d a (suc h) → AllFinish S u (risingLTZ d a (suc h) k) p → Passed u (cost S (LTZS d a (suc h) k)) p
+  unfolding risingLTZ
   only-so u d a zero p R A = one-passed u d a p (check-passed u _ p (A .0))
   only-so u d a (suc h) p R A = both-passed u d a (suc h) p R (check-passed u _ p (A .0)) (only-so u (suc d) (suc a) h _ (rising-more R) (A .1))
 
   -- a run past commands that all finish
-  runs-so : (u : Supply) (input : List Row) (end place : ℕ) (cs : List Command) (xs : List Line) (s : State) → AllFinish S u cs (s .spent)
-      → runLines S u input end (map (λ c. record { place = place; command = c }) cs ++ xs) s ≡ runLines S u input end xs (finishes S input cs s)
-  unfolding finishes finish
-  runs-so u input end place [] xs s A = refl
-  runs-so u input end place (c ∷ cs) xs s A =
-      run-line S u input end _ _ s ∙ given-done (check u (cost S c) (s .spent)) _ _ (A .0) ∙ runs-so u input end place cs xs (finish S input c s) (A .1)
+  runs-so : (u : Supply) (input : List Row) (end : ℕ) (ys xs : List Line) (s : State) → AllFinish S u (map (λ y. y .command) ys) (s .spent)
+      → runLines S u input end (ys ++ xs) s ≡ runLines S u input end xs (finishAll S input (map (λ y. y .command) ys) s)
+  unfolding finishAll finish
+  runs-so u input end [] xs s A = refl
+  runs-so u input end (y ∷ ys) xs s A =
+      run-line S u input end y (ys ++ xs) s ∙ given-done (check u (cost S (y .command)) (s .spent)) _ _ (A .0)
+      ∙ runs-so u input end ys xs (finish S input (y .command) s) (A .1)
 
 -- the last of the h
 pub finishes-last : (S : Setting) (input : List Row) (d a i k : ℕ) (s : State)
-    → finishes S input (ltzs d a (suc i) k) s ≡ finish S input (LTZ (d + i) (a + i) k) (finishes S input (ltzs d a i k) s)
-unfolding ltzs finishes
+    → finishAll S input (risingLTZ d a (suc i) k) s ≡ finish S input (LTZ (d + i) (a + i) k) (finishAll S input (risingLTZ d a i k) s)
+unfolding risingLTZ finishAll
 finishes-last S input d a zero k s =
     let e : d ≡ d + 0 = omega arith in
     let f : a ≡ a + 0 = omega arith in
@@ -223,7 +247,7 @@ finishes-last S input d a (suc i) k s =
     let e : suc d + i ≡ d + suc i = omega arith in
     let f : suc a + i ≡ a + suc i = omega arith in
     finishes-last S input (suc d) (suc a) i k (finish S input (LTZ d a k) s)
-    ∙ ap₂ (λ (x y : ℕ). finish S input (LTZ x y k) (finishes S input (ltzs (suc d) (suc a) i k) (finish S input (LTZ d a k) s))) e f
+    ∙ ap₂ (λ (x y : ℕ). finish S input (LTZ x y k) (finishAll S input (risingLTZ (suc d) (suc a) i k) (finish S input (LTZ d a k) s))) e f
 
 as-signs : (S : Setting) (K d a h k : ℕ) → T (inRanges (S .p) K (LTZS d a h k)) → AsSigns S d a h k
 as-signs S K d a zero k ok = absurd (let R = operands (S .p) K (LTZS d a 0 k) ok in omega arith)
@@ -231,14 +255,14 @@ as-signs S K d a (suc h) k ok =
     let R = rising (operands (S .p) K (LTZS d a (suc h) k) ok .1 .1 .1 .1 .1 .1 .0) in
     record {
       finishes-as = λ input s. finishes-so S k input d a (suc h) s R;
-      all = λ u s e. all-so S k u d a (suc h) s R (check-passed u _ s e);
-      or-nothing = λ u s A. passed-check u _ s (only-so S k u d a h s R A);
-      runs-as = λ u input end place xs s e.
+      all-if-finishes = λ u s e. all-so S k u d a (suc h) s R (check-passed u _ s e);
+      finishes-if-all = λ u s A. passed-check u _ s (only-so S k u d a h s R A);
+      runs-as = λ u input end place ys xs s q e.
           run-line S u input end _ xs s ∙ given-done (check u (cost S (LTZS d a (suc h) k)) (s .spent)) _ _ e
-          ∙ ap (runLines S u input end xs) (finishes-so S k input d a (suc h) s R)
-          ∙ sym (runs-so S k u input end place (ltzs d a (suc h) k) xs s (all-so S k u d a (suc h) (s .spent) R (check-passed u _ (s .spent) e)));
+          ∙ ap (runLines S u input end xs) (finishes-so S k input d a (suc h) s R ∙ ap (λ (cs : List Command). finishAll S input cs s) (sym q))
+          ∙ sym (runs-so S k u input end ys xs s (rw q (all-so S k u d a (suc h) (s .spent) R (check-passed u _ (s .spent) e))));
       ends-whole = λ u input end place xs s z. run-line S u input end _ xs s ∙ given-refused (check u (cost S (LTZS d a (suc h) k)) (s .spent)) _ _ z;
     }
 
 pub stretches : Stretches
-stretches = record { equal-or-apart = tested; as-signs = as-signs }
+stretches = record { in-range = in-range; as-signs = as-signs }

@@ -43,7 +43,7 @@ check u c s =
     ((allSet (s .marks) (c .reads), 21)
     -- "22: no input row left"
     ∷ (leb (then .inputs) (u .inputs), 22)
-    -- "23: no mask left"
+    -- "23: no mask left"; request 7: "21 to 25 speak of the whole command", so of LTZS fewer masks left than it takes
     ∷ (leb (then .masks) (u .masks), 23)
     -- "24: fewer triples left than the command takes"
     ∷ (leb (then .triples) (u .triples), 24)

@@ -102,7 +102,7 @@ stepped spent r s x =
 abbrev pub Put : Setting → List Row → Command → ℕ → State → Step → Type 0
 Put S input c r s x = perform S input c s ≡ stepped (s .spent) r s x
 
--- the commands that open rows, by the step of their name, whatever the state
+-- the commands that open rows and leave one, by the step of their name, whatever the state. LTZS, which leaves several, is in Stretches.antt.
 pub record CommandParts (S : Setting) (input : List Row) (s : State) : Type 0 where
   pub mul-put : (r a b : ℕ) → Put S input (MUL r a b) r s (product S (register s a) (register s b) (s .deal))
   pub mod-put : (r a k m : ℕ) → Put S input (MOD r a k m) r s (remainder S k m (register s a) (s .deal))

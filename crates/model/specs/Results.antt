@@ -21,8 +21,8 @@ abbrev pub secretIn : Setting → State → ℕ → ℕ
 secretIn S s r = secret (S .p) (S .t) (register s r)
 
 -- What a command leaves, s being the state before it and s′ after it. "LOAD d: next input row", and there is one; "CONST d v: v, every share being
--- v"; ADD, SUB, SCALE and MUL modulo p. REVEAL opens its register, and the register's secret goes to the revealed list. LTZS leaves in each of its h
--- registers what LTZ leaves, of the secret that stood in register a + i before the command.
+-- v"; ADD, SUB, SCALE and MUL modulo p. REVEAL opens its register, and the register's secret goes to the revealed list. LTZS leaves in register d + i,
+-- for each i below h, what LTZ leaves of the secret that stood in register a + i before the command.
 abbrev pub Leaves : Setting → List Row → Command → State → State → Type 0
 Leaves S input (LOAD d) s s′ = (s .spent .counts .inputs < length input) × (register s′ d ≡ getD input (s .spent .counts .inputs) noRow)
 Leaves S input (CONST d v) s s′ = (register s′ d ≡ row (S .n) (λ _. v)) × (secretIn S s′ d ≡ v)

@@ -80,8 +80,8 @@ saidAt s i = byteSays s i (getD s i 0)
 abbrev pub sizeAt : List ℕ → ℕ → ℕ
 sizeAt s i = saidAt s i .0
 
--- A test of operands: that one number is at most another, or below it; and of the stretches of h registers from d and from a on: "The two stretches must
--- be equal or share no register." (`EqualOrApart` in Stretches.antt says that it is this.)
+-- A test of operands: one number is at most another, or below it; or two stretches of h registers, from d and from a on, "must be equal or share no
+-- register" (`InRange` in Stretches.antt states that it is this).
 pub data Test : Type 0 where
   atMost below : ℕ → ℕ → Test
   equalOrApart : ℕ → ℕ → ℕ → Test

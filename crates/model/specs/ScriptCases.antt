@@ -202,10 +202,20 @@ scriptCases =
     ∷ scripted 0 (14 ∷ 0 ∷ 48 ∷ 16 ∷ 2 ∷ 0 ∷ []) 21 0
     -- 21: LTZS h = 16, the registers left to 63
     ∷ scripted 0 (14 ∷ 48 ∷ 0 ∷ 16 ∷ 3 ∷ 0 ∷ []) 21 0
-    -- 21: LTZS, d + h is a
+    -- 21: LTZS h = 2, d + h is a
     ∷ scripted 0 (14 ∷ 0 ∷ 2 ∷ 2 ∷ 2 ∷ 0 ∷ []) 21 0
-    -- 21: LTZS, a + h is d
+    -- 21: LTZS h = 2, a + h is d
     ∷ scripted 0 (14 ∷ 2 ∷ 0 ∷ 2 ∷ 2 ∷ 0 ∷ []) 21 0
+    -- 21: LTZS h = 16, d + h is a
+    ∷ scripted 0 (14 ∷ 0 ∷ 16 ∷ 16 ∷ 2 ∷ 0 ∷ []) 21 0
+    -- 21: LTZS h = 16, a + h is d
+    ∷ scripted 0 (14 ∷ 16 ∷ 0 ∷ 16 ∷ 2 ∷ 0 ∷ []) 21 0
+    -- 21: LTZS k = 7 in field 1
+    ∷ scripted 1 (14 ∷ 0 ∷ 5 ∷ 5 ∷ 7 ∷ 0 ∷ []) 21 0
+    -- 21: LTZS k = 15 in field 2
+    ∷ scripted 2 (14 ∷ 32 ∷ 16 ∷ 12 ∷ 15 ∷ 0 ∷ []) 21 0
+    -- 21: LTZS k = 30 in field 3
+    ∷ scripted 3 (14 ∷ 9 ∷ 0 ∷ 9 ∷ 30 ∷ 0 ∷ []) 21 0
     -- 11: LTZS, h is 0
     ∷ scripted 0 (1 ∷ 0 ∷ 14 ∷ 0 ∷ 0 ∷ 0 ∷ 2 ∷ 0 ∷ []) 11 2
     -- 11: LTZS, h is 17
@@ -214,12 +224,26 @@ scriptCases =
     ∷ scripted 0 (1 ∷ 0 ∷ 14 ∷ 0 ∷ 49 ∷ 16 ∷ 2 ∷ 0 ∷ []) 11 2
     -- 11: LTZS, d + h is 65
     ∷ scripted 0 (1 ∷ 0 ∷ 14 ∷ 49 ∷ 0 ∷ 16 ∷ 2 ∷ 0 ∷ []) 11 2
-    -- 11: LTZS, d + h is a + 1
+    -- 11: LTZS h = 2, d + h is a + 1
     ∷ scripted 0 (1 ∷ 0 ∷ 14 ∷ 0 ∷ 1 ∷ 2 ∷ 2 ∷ 0 ∷ []) 11 2
-    -- 11: LTZS, a + h is d + 1
+    -- 11: LTZS h = 2, a + h is d + 1
     ∷ scripted 0 (1 ∷ 0 ∷ 14 ∷ 1 ∷ 0 ∷ 2 ∷ 2 ∷ 0 ∷ []) 11 2
+    -- 11: LTZS h = 3, one register is in both
+    ∷ scripted 0 (1 ∷ 0 ∷ 14 ∷ 0 ∷ 2 ∷ 3 ∷ 2 ∷ 0 ∷ []) 11 2
+    -- 11: LTZS h = 3, two registers are in both
+    ∷ scripted 0 (1 ∷ 0 ∷ 14 ∷ 0 ∷ 1 ∷ 3 ∷ 2 ∷ 0 ∷ []) 11 2
+    -- 11: LTZS h = 16, d + h is a + 1
+    ∷ scripted 0 (1 ∷ 0 ∷ 14 ∷ 0 ∷ 15 ∷ 16 ∷ 2 ∷ 0 ∷ []) 11 2
+    -- 11: LTZS h = 16, a + h is d + 1
+    ∷ scripted 0 (1 ∷ 0 ∷ 14 ∷ 15 ∷ 0 ∷ 16 ∷ 2 ∷ 0 ∷ []) 11 2
     -- 11: LTZS, k is 1
     ∷ scripted 0 (1 ∷ 0 ∷ 14 ∷ 0 ∷ 0 ∷ 2 ∷ 1 ∷ 0 ∷ []) 11 2
     -- 11: LTZS, k is 4
     ∷ scripted 0 (1 ∷ 0 ∷ 14 ∷ 0 ∷ 0 ∷ 2 ∷ 4 ∷ 0 ∷ []) 11 2
+    -- 11: LTZS, k is 8 in field 1
+    ∷ scripted 1 (1 ∷ 0 ∷ 14 ∷ 0 ∷ 5 ∷ 5 ∷ 8 ∷ 0 ∷ []) 11 2
+    -- 11: LTZS, k is 16 in field 2
+    ∷ scripted 2 (1 ∷ 0 ∷ 14 ∷ 32 ∷ 16 ∷ 12 ∷ 16 ∷ 0 ∷ []) 11 2
+    -- 11: LTZS, k is 31 in field 3
+    ∷ scripted 3 (1 ∷ 0 ∷ 14 ∷ 9 ∷ 0 ∷ 9 ∷ 31 ∷ 0 ∷ []) 11 2
     ∷ []

@@ -1,6 +1,6 @@
 -- The tests of LTZS's stretches, as the code tries them by differences.
 -- Assumes nothing.
-use mathlib.Core.Path.{_≡_, refl, sym}
+use mathlib.Core.Path.{_≡_, sym}
 use mathlib.Core.Bool.{Bool, true, false}
 use Prim.Native.Nat.{ℕ, _+_, _-_, _≤_, _<_}
 use native.Mathlib.Omega.{arith}
@@ -26,22 +26,23 @@ module _ (d a h : ℕ) where
   pub are-equal : d ≡ a → true ≡ passes (equalOrApart d a h)
   are-equal e = sym (is-true _ (pass (equalOrApart d a h) (equal e)))
 
+  -- by the registers from the first of the one to the first of the other
+  apart-by : (gap : ℕ) → (h ≤ gap → Standing d a h) → (Standing d a h → h ≤ gap) → leb h gap ≡ passes (equalOrApart d a h)
+  apart-by gap f g =
+      same-test (leb h gap) (passes (equalOrApart d a h)) (λ t. pass (equalOrApart d a h) (f (leb→le h gap t))) (λ t. le→leb h gap (g (said (equalOrApart d a h) t)))
+
   pub apart-below : d < a → leb h (a - d) ≡ passes (equalOrApart d a h)
-  apart-below l =
-      same-test (leb h (a - d)) (passes (equalOrApart d a h)) (λ t. pass (equalOrApart d a h) (before (omega (arith, leb→le h (a - d) t))))
-      (λ t. le→leb h (a - d) (gap (said (equalOrApart d a h) t)))
+  apart-below l = apart-by (a - d) (λ m. before (omega arith)) within
     where
-      gap : Standing d a h → h ≤ a - d
-      gap (equal e) = absurd (omega arith)
-      gap (before m) = omega arith
-      gap (after m) = absurd (omega arith)
+      within : Standing d a h → h ≤ a - d
+      within (equal e) = absurd (omega arith)
+      within (before m) = omega arith
+      within (after m) = absurd (omega arith)
 
   pub apart-above : (d ≡ a → ⊥) → a ≤ d → leb h (d - a) ≡ passes (equalOrApart d a h)
-  apart-above n l =
-      same-test (leb h (d - a)) (passes (equalOrApart d a h)) (λ t. pass (equalOrApart d a h) (after (omega (arith, leb→le h (d - a) t))))
-      (λ t. le→leb h (d - a) (gap (said (equalOrApart d a h) t)))
+  apart-above n l = apart-by (d - a) (λ m. after (omega arith)) within
     where
-      gap : Standing d a h → h ≤ d - a
-      gap (equal e) = absurd (n e)
-      gap (before m) = absurd (n (omega arith))
-      gap (after m) = omega arith
+      within : Standing d a h → h ≤ d - a
+      within (equal e) = absurd (n e)
+      within (before m) = absurd (n (omega arith))
+      within (after m) = omega arith

@@ -1,5 +1,5 @@
-// What stands at a place of a script: END, a command, or 9 for "a command byte over 0D", which request 7 makes 0E, 10 for "operands cut off" and for a script that has
-// ended, 11 for "an operand out of range".
+// What stands at a place of a script: END, a command, or 9 for "a command byte over 0D" (over 0E by request 7), 10 for "operands cut off" and for a
+// script that has ended, 11 for "an operand out of range".
 ghost use mathlib.Core.Path.{_≡_};
 ghost use mathlib.Core.List.{List};
 ghost use Prim.Native.Nat.{ℕ, _≤_};

@@ -79,7 +79,7 @@ fn ends_in(d: usize, h: usize) -> bool
     h <= 64 - d
 }
 
-// Stretches of h registers from d and from a on. Differences, unlike sums, fit whatever the numbers are.
+// Stretches of h registers from d and from a on are equal or share no register. Differences, unlike sums, fit whatever the numbers are.
 fn equal_or_apart(d: usize, a: usize, h: usize) -> bool
     ensures { λ r. ⌜ r ≡ Script.passes (Script.equalOrApart d a h) ⌝ }
 {
@@ -96,10 +96,10 @@ fn equal_or_apart(d: usize, a: usize, h: usize) -> bool
 fn stretches_in(largest: u32, d: usize, a: usize, h: usize, k: u32) -> bool
     ensures { λ r. ⌜ r ≡ Script.allPass (Script.atMost 1 h ∷ Script.atMost h 16 ∷ Script.atMost (d + h) 64 ∷ Script.atMost (a + h) 64 ∷ Script.atMost 2 k ∷ Script.atMost k largest ∷ Script.equalOrApart d a h ∷ []) ⌝ }
 {
-    let with_k = both(2 <= k, both(k <= largest, equal_or_apart(d, a, h)));
+    let rest = both(2 <= k, both(k <= largest, equal_or_apart(d, a, h)));
     both(
         1 <= h,
-        both(h <= 16, both(ends_in(d, h), both(ends_in(a, h), with_k))),
+        both(h <= 16, both(ends_in(d, h), both(ends_in(a, h), rest))),
     )
 }
 

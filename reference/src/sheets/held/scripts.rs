@@ -238,28 +238,49 @@ fn comparisons() -> Vec<Held> {
         .collect()
 }
 
-/// LTZS: h from 1 to 16, both stretches to register 63, equal or with no register in both, and k as for LTZ.
+/// LTZS: h from 1 to 16, both stretches to register 63, equal or with no register in both, and k as for LTZ in every
+/// field.
 fn signs() -> Vec<Held> {
     let good = [
-        ("21: LTZS h = 1, d = a", (63, 63, 1, 2)),
-        ("21: LTZS h = 2, d = a", (5, 5, 2, 3)),
-        ("21: LTZS h = 16, the registers read to 63", (0, 48, 16, 2)),
-        ("21: LTZS h = 16, the registers left to 63", (48, 0, 16, 3)),
-        ("21: LTZS, d + h is a", (0, 2, 2, 2)),
-        ("21: LTZS, a + h is d", (2, 0, 2, 2)),
+        ("21: LTZS h = 1, d = a", 0, (63, 63, 1, 2)),
+        ("21: LTZS h = 2, d = a", 0, (5, 5, 2, 3)),
+        (
+            "21: LTZS h = 16, the registers read to 63",
+            0,
+            (0, 48, 16, 2),
+        ),
+        (
+            "21: LTZS h = 16, the registers left to 63",
+            0,
+            (48, 0, 16, 3),
+        ),
+        ("21: LTZS h = 2, d + h is a", 0, (0, 2, 2, 2)),
+        ("21: LTZS h = 2, a + h is d", 0, (2, 0, 2, 2)),
+        ("21: LTZS h = 16, d + h is a", 0, (0, 16, 16, 2)),
+        ("21: LTZS h = 16, a + h is d", 0, (16, 0, 16, 2)),
+        ("21: LTZS k = 7 in field 1", 1, (0, 5, 5, 7)),
+        ("21: LTZS k = 15 in field 2", 2, (32, 16, 12, 15)),
+        ("21: LTZS k = 30 in field 3", 3, (9, 0, 9, 30)),
     ];
     let bad = [
-        ("11: LTZS, h is 0", (0, 0, 0, 2)),
-        ("11: LTZS, h is 17", (0, 32, 17, 2)),
-        ("11: LTZS, a + h is 65", (0, 49, 16, 2)),
-        ("11: LTZS, d + h is 65", (49, 0, 16, 2)),
-        ("11: LTZS, d + h is a + 1", (0, 1, 2, 2)),
-        ("11: LTZS, a + h is d + 1", (1, 0, 2, 2)),
-        ("11: LTZS, k is 1", (0, 0, 2, 1)),
-        ("11: LTZS, k is 4", (0, 0, 2, 4)),
+        ("11: LTZS, h is 0", 0, (0, 0, 0, 2)),
+        ("11: LTZS, h is 17", 0, (0, 32, 17, 2)),
+        ("11: LTZS, a + h is 65", 0, (0, 49, 16, 2)),
+        ("11: LTZS, d + h is 65", 0, (49, 0, 16, 2)),
+        ("11: LTZS h = 2, d + h is a + 1", 0, (0, 1, 2, 2)),
+        ("11: LTZS h = 2, a + h is d + 1", 0, (1, 0, 2, 2)),
+        ("11: LTZS h = 3, one register is in both", 0, (0, 2, 3, 2)),
+        ("11: LTZS h = 3, two registers are in both", 0, (0, 1, 3, 2)),
+        ("11: LTZS h = 16, d + h is a + 1", 0, (0, 15, 16, 2)),
+        ("11: LTZS h = 16, a + h is d + 1", 0, (15, 0, 16, 2)),
+        ("11: LTZS, k is 1", 0, (0, 0, 2, 1)),
+        ("11: LTZS, k is 4", 0, (0, 0, 2, 4)),
+        ("11: LTZS, k is 8 in field 1", 1, (0, 5, 5, 8)),
+        ("11: LTZS, k is 16 in field 2", 2, (32, 16, 12, 16)),
+        ("11: LTZS, k is 31 in field 3", 3, (9, 0, 9, 31)),
     ];
     let ltzs = |(d, a, h, k)| Command::Ltzs { d, a, h, k };
-    let good = good.map(|(says, operands)| alone(says, 0, ltzs(operands)));
-    let bad = bad.map(|(says, operands)| after_load(says, 0, ltzs(operands)));
+    let good = good.map(|(says, field, operands)| alone(says, field, ltzs(operands)));
+    let bad = bad.map(|(says, field, operands)| after_load(says, field, ltzs(operands)));
     good.into_iter().chain(bad).collect()
 }

@@ -1,7 +1,7 @@
 -- `counts::of_masks` meets its contract: h times what a mask and its triples cost, which is a small number.
 -- Assumes nothing.
-use mathlib.Core.Path.{_≡_, ap, _∙_}
-use Prim.Native.Nat.{ℕ, _+_, _-_, _*_, _^_, _≤_, _<_}
+use mathlib.Core.Path.{_≡_, _∙_}
+use Prim.Native.Nat.{ℕ, _*_, _^_, _≤_, _<_}
 use native.Mathlib.Nat.{mul-le-mul-right}
 use native.Mathlib.Omega.{arith}
 use borrow.Author.Needs.{needs}
@@ -20,8 +20,9 @@ module _ {l h m : ℕ} (hl : l ≤ 31) (hh : h ≤ 16) (hm : m ≤ 30) {one : Co
   openings-fit : h * one .openings < 2 ^ 64
   openings-fit = small (one .openings) (rw e (omega arith))
 
-  all : {r : Counts} → r ≡ record { inputs = 0; masks = h; triples = h * one .triples; openings = h * one .openings; revealed = 0 } → r ≡ ofMasks h (modTriples l m)
-  all q = q ∙ rw e
+times-all : {h n : ℕ} {one r : Counts} → one ≡ ofMask n
+    → r ≡ record { inputs = 0; masks = h; triples = h * one .triples; openings = h * one .openings; revealed = 0 } → r ≡ ofMasks h n
+times-all e q = q ∙ rw e
 
 mul-made : tie.Need-mul-made
 mul-made c = let p = c .before .before .pre in record { fits = triples-fit (p .0) (p .1) (p .3) (c .before .of-mask .ensures) }
@@ -30,7 +31,7 @@ mul-made-2 : tie.Need-mul-made-2
 mul-made-2 c = let p = c .before .before .before .pre in record { fits = openings-fit (p .0) (p .1) (p .3) (c .before .before .of-mask .ensures) }
 
 returns : tie.Need-returns
-returns c = let p = c .before .before .before .before .pre in all (p .0) (p .1) (p .3) (c .before .before .before .of-mask .ensures) (c .made .ensures)
+returns c = times-all (c .before .before .before .of-mask .ensures) (c .made .ensures)
 
 pub of-masks-spec : {M : Type 1} → statement M
 of-masks-spec = tie.close (tie.spec (λ c κs. search needs) mul-made mul-made-2 (λ c κs. search needs) returns)

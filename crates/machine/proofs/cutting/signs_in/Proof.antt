@@ -7,7 +7,7 @@ use lib.ListN.{length}
 use borrow.Author.Needs.{needs}
 use Rattle.model.specs.Counts.{added}
 use Rattle.costs.specs.Costing.{countsOf}
-use Rattle.machine.proofs.Signing.{Turned, signs-k, turned-start, turn-ready, turn-registers, turn-sums, turned-more, turned-end}
+use Rattle.machine.proofs.Signing.{Turned, signs-k, turned-start, turn-ready, turn-sums, turned-more, turned-end}
 use Rattle.machine.proofs.cutting.signs_in.Statement.{statement}
 use Rattle.machine.proofs.cutting.signs_in.Tie as tie
 
@@ -29,12 +29,12 @@ loop-holds c = (omega arith, turned-start (c .before .before .before .before .pr
 add-sign-in : tie.Need-add-sign-in Inv-loop μ-loop
 add-sign-in c =
     let turn = c .before .before .before in
-    record { fits = omega (arith, turn-registers (turn .before .before .before .before .before .pre) (turn .loop .inv .1) (c .before .before .loop-test .taken) .0) }
+    record { fits = omega (arith, turn-ready (turn .before .before .before .before .before .pre) (turn .loop .inv .1) (c .before .before .loop-test .taken) .d-in) }
 
 add-sign-in-2 : tie.Need-add-sign-in-2 Inv-loop μ-loop
 add-sign-in-2 c =
     let turn = c .before .before .before in
-    record { fits = omega (arith, turn-registers (turn .before .before .before .before .before .pre) (turn .loop .inv .1) (c .before .before .loop-test .taken) .1) }
+    record { fits = omega (arith, turn-ready (turn .before .before .before .before .before .pre) (turn .loop .inv .1) (c .before .before .loop-test .taken) .a-in) }
 
 sign-in-requires : tie.Need-sign-in-requires Inv-loop μ-loop
 sign-in-requires c κs =

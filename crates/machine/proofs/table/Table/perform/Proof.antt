@@ -12,7 +12,7 @@ use Rattle.machine.specs.declared.table.Table.{Table}
 use Rattle.machine.specs.Holding.{lent}
 use Rattle.machine.proofs.Readiness.{input-fits}
 use Rattle.machine.proofs.Performing.{load-performs, fill-performs, add-performs, sub-performs, scale-performs}
-use Rattle.machine.proofs.Matching.{Known, reached, fits, ready, says, done, has-room, multiply-done, compare-done, reveal-asks, reveal-done, signs-asks, signs-done, cut-asks, cut-goes, cut-done}
+use Rattle.machine.proofs.Matching.{Known, reached, fits, ready, says, done, has-room, multiply-done, compare-done, reveal-asks, reveal-done, signs-asks, signs-done, cut-asks, cut-done}
 use Rattle.machine.proofs.table.Table.perform.Statement.{statement}
 use Rattle.machine.proofs.table.Table.perform.Tie as tie
 
@@ -71,45 +71,20 @@ multiply-requires c κs =
     let r = says K e in
     (has-room K e 1 (ready K e .triples) (ready K e .room), r .0, r .1 .0, r .1 .1 .0)
 
-cut-from-requires : tie.Need-cut-from-requires
-cut-from-requires c κs = cut-asks (known (c .before .before .before .before .before .before .before)) (c .before .before .before .before .before .c7 .given .1) _ _ (Mod _ _) refl (search needs)
+cut-requires : tie.Need-cut-requires
+cut-requires c κs = cut-asks (known (c .before .before .before .before .before)) (c .before .before .before .c7 .given .1) _ _ (Mod _ _) refl
 
-put-requires : tie.Need-put-requires
-put-requires c κs =
-    let call = c .before .before in
-    cut-goes (known (call .before .before .before .before .before .before .before .before)) (call .before .before .before .before .before .before .c7 .given .1) _ _ (Mod _ _) refl
+cut-requires-2 : tie.Need-cut-requires-2
+cut-requires-2 c κs = cut-asks (known (c .before .before .before .before .before)) (c .before .before .before .c8 .given .1) _ _ (Trunc _ _) refl
 
-cut-from-requires-2 : tie.Need-cut-from-requires-2
-cut-from-requires-2 c κs = cut-asks (known (c .before .before .before .before .before .before .before)) (c .before .before .before .before .before .c8 .given .1) _ _ (Trunc _ _) refl (search needs)
+cut-requires-3 : tie.Need-cut-requires-3
+cut-requires-3 c κs = cut-asks (known (c .before .before .before .before .before)) (c .before .before .before .c9 .given .1) _ _ (Ltz _) refl
 
-put-requires-2 : tie.Need-put-requires-2
-put-requires-2 c κs =
-    let call = c .before .before in
-    cut-goes (known (call .before .before .before .before .before .before .before .before)) (call .before .before .before .before .before .before .c8 .given .1) _ _ (Trunc _ _) refl
+cut-requires-4 : tie.Need-cut-requires-4
+cut-requires-4 c κs = cut-asks (known (c .before .before .before .before .before)) (c .before .before .before .c10 .given .1) _ _ (Over _ _) refl
 
-cut-from-requires-3 : tie.Need-cut-from-requires-3
-cut-from-requires-3 c κs = cut-asks (known (c .before .before .before .before .before .before .before)) (c .before .before .before .before .before .c9 .given .1) _ _ (Ltz _) refl (search needs)
-
-put-requires-3 : tie.Need-put-requires-3
-put-requires-3 c κs =
-    let call = c .before .before in
-    cut-goes (known (call .before .before .before .before .before .before .before .before)) (call .before .before .before .before .before .before .c9 .given .1) _ _ (Ltz _) refl
-
-cut-from-requires-4 : tie.Need-cut-from-requires-4
-cut-from-requires-4 c κs = cut-asks (known (c .before .before .before .before .before .before .before)) (c .before .before .before .before .before .c10 .given .1) _ _ (Over _ _) refl (search needs)
-
-put-requires-4 : tie.Need-put-requires-4
-put-requires-4 c κs =
-    let call = c .before .before in
-    cut-goes (known (call .before .before .before .before .before .before .before .before)) (call .before .before .before .before .before .before .c10 .given .1) _ _ (Over _ _) refl
-
-cut-from-requires-5 : tie.Need-cut-from-requires-5
-cut-from-requires-5 c κs = cut-asks (known (c .before .before .before .before .before .before .before)) (c .before .before .before .before .before .c11 .given .1) _ _ (Blocks _ _) refl (search needs)
-
-put-requires-5 : tie.Need-put-requires-5
-put-requires-5 c κs =
-    let call = c .before .before in
-    cut-goes (known (call .before .before .before .before .before .before .before .before)) (call .before .before .before .before .before .before .c11 .given .1) _ _ (Blocks _ _) refl
+cut-requires-5 : tie.Need-cut-requires-5
+cut-requires-5 c κs = cut-asks (known (c .before .before .before .before .before)) (c .before .before .before .c11 .given .1) _ _ (Blocks _ _) refl
 
 reveal-requires : tie.Need-reveal-requires
 reveal-requires c κs = reveal-asks (known (c .before .before .before .before .before)) (c .before .before .before .c12 .given .1) refl
@@ -166,48 +141,33 @@ returns-6 c =
 
 returns-7 : tie.Need-returns-7
 returns-7 c =
-    let call = c .before .before .before in
-    let K = known (call .before .before .before .before .before .before .before .before) in
-    let e = call .before .before .before .before .before .before .c7 .given .1 in
-    let made = call .cut-from in
-    let seven : length (made .result .shares) ≡ 7 = search (needs, made .ok) in
-    (c .put .ensures .1, cut-done K e _ _ (Mod _ _) refl seven (made .ensures) (c .put .ensures .0))
+    let call = c .before .before in
+    let K = known (call .before .before .before .before .before .before) in
+    (call .cut .ensures .1, cut-done K (call .before .before .before .before .c7 .given .1) _ _ (Mod _ _) refl (call .cut .ensures .0))
 
 returns-8 : tie.Need-returns-8
 returns-8 c =
-    let call = c .before .before .before in
-    let K = known (call .before .before .before .before .before .before .before .before) in
-    let e = call .before .before .before .before .before .before .c8 .given .1 in
-    let made = call .cut-from2 in
-    let seven : length (made .result .shares) ≡ 7 = search (needs, made .ok) in
-    (c .put2 .ensures .1, cut-done K e _ _ (Trunc _ _) refl seven (made .ensures) (c .put2 .ensures .0))
+    let call = c .before .before in
+    let K = known (call .before .before .before .before .before .before) in
+    (call .cut2 .ensures .1, cut-done K (call .before .before .before .before .c8 .given .1) _ _ (Trunc _ _) refl (call .cut2 .ensures .0))
 
 returns-9 : tie.Need-returns-9
 returns-9 c =
-    let call = c .before .before .before in
-    let K = known (call .before .before .before .before .before .before .before .before) in
-    let e = call .before .before .before .before .before .before .c9 .given .1 in
-    let made = call .cut-from3 in
-    let seven : length (made .result .shares) ≡ 7 = search (needs, made .ok) in
-    (c .put3 .ensures .1, cut-done K e _ _ (Ltz _) refl seven (made .ensures) (c .put3 .ensures .0))
+    let call = c .before .before in
+    let K = known (call .before .before .before .before .before .before) in
+    (call .cut3 .ensures .1, cut-done K (call .before .before .before .before .c9 .given .1) _ _ (Ltz _) refl (call .cut3 .ensures .0))
 
 returns-10 : tie.Need-returns-10
 returns-10 c =
-    let call = c .before .before .before in
-    let K = known (call .before .before .before .before .before .before .before .before) in
-    let e = call .before .before .before .before .before .before .c10 .given .1 in
-    let made = call .cut-from4 in
-    let seven : length (made .result .shares) ≡ 7 = search (needs, made .ok) in
-    (c .put4 .ensures .1, cut-done K e _ _ (Over _ _) refl seven (made .ensures) (c .put4 .ensures .0))
+    let call = c .before .before in
+    let K = known (call .before .before .before .before .before .before) in
+    (call .cut4 .ensures .1, cut-done K (call .before .before .before .before .c10 .given .1) _ _ (Over _ _) refl (call .cut4 .ensures .0))
 
 returns-11 : tie.Need-returns-11
 returns-11 c =
-    let call = c .before .before .before in
-    let K = known (call .before .before .before .before .before .before .before .before) in
-    let e = call .before .before .before .before .before .before .c11 .given .1 in
-    let made = call .cut-from5 in
-    let seven : length (made .result .shares) ≡ 7 = search (needs, made .ok) in
-    (c .put5 .ensures .1, cut-done K e _ _ (Blocks _ _) refl seven (made .ensures) (c .put5 .ensures .0))
+    let call = c .before .before in
+    let K = known (call .before .before .before .before .before .before) in
+    (call .cut5 .ensures .1, cut-done K (call .before .before .before .before .c11 .given .1) _ _ (Blocks _ _) refl (call .cut5 .ensures .0))
 
 returns-12 : tie.Need-returns-12
 returns-12 c =
@@ -234,4 +194,4 @@ returns-14 c =
 pub perform-spec : {M : Type 1} → statement M
 perform-spec =
     tie.close
-    (tie.spec (λ c κs. search needs) places-of-requires (λ c. search needs) load-requires (λ c. search needs) fill-requires (λ c. search needs) add-requires (λ c. search needs) sub-requires (λ c. search needs) scale-requires (λ c. search needs) multiply-requires (λ c. search needs) cut-from-requires put-requires (λ c. search needs) cut-from-requires-2 put-requires-2 (λ c. search needs) cut-from-requires-3 put-requires-3 (λ c. search needs) cut-from-requires-4 put-requires-4 (λ c. search needs) cut-from-requires-5 put-requires-5 (λ c. search needs) reveal-requires (λ c. search needs) compare-requires (λ c. search needs) signs-requires returns returns-2 returns-3 returns-4 returns-5 (λ c. search needs) returns-6 (λ c. search needs) returns-7 (λ c. search needs) returns-8 (λ c. search needs) returns-9 (λ c. search needs) returns-10 (λ c. search needs) returns-11 (λ c. search needs) (λ c. search needs) returns-12 (λ c. search needs) returns-13 (λ c. search needs) returns-14)
+    (tie.spec (λ c κs. search needs) places-of-requires (λ c. search needs) load-requires (λ c. search needs) fill-requires (λ c. search needs) add-requires (λ c. search needs) sub-requires (λ c. search needs) scale-requires (λ c. search needs) multiply-requires (λ c. search needs) cut-requires (λ c. search needs) cut-requires-2 (λ c. search needs) cut-requires-3 (λ c. search needs) cut-requires-4 (λ c. search needs) cut-requires-5 (λ c. search needs) reveal-requires (λ c. search needs) compare-requires (λ c. search needs) signs-requires returns returns-2 returns-3 returns-4 returns-5 (λ c. search needs) returns-6 (λ c. search needs) returns-7 (λ c. search needs) returns-8 (λ c. search needs) returns-9 (λ c. search needs) returns-10 (λ c. search needs) returns-11 (λ c. search needs) (λ c. search needs) returns-12 (λ c. search needs) returns-13 (λ c. search needs) returns-14)
