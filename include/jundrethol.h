@@ -35,7 +35,7 @@ extern "C" {
  * may add functions, refusals, and counts after the last, and may accept what was refused with 1 to 20, but for 15: an output that is shorter
  * than the input stays refused. Where the first number grows, the second starts at 0. */
 #define JUNDRETHOL_VERSION_MAJOR 3
-#define JUNDRETHOL_VERSION_MINOR 1
+#define JUNDRETHOL_VERSION_MINOR 2
 
 /* What every function answers: 0, or the first of the others that applies. 12 comes after 3 and before 4. */
 #define JUNDRETHOL_DONE 0
@@ -49,16 +49,17 @@ extern "C" {
 #define JUNDRETHOL_NO_SHARING 6    /* a row is no sharing */
 #define JUNDRETHOL_BAD_MASK 7      /* a mask is not well formed */
 #define JUNDRETHOL_BAD_TRIPLE 8    /* a triple is not well formed */
-#define JUNDRETHOL_BAD_COMMAND 9   /* a command byte is over 0x0D */
+#define JUNDRETHOL_BAD_COMMAND 9   /* a command byte is over 0x0E */
 #define JUNDRETHOL_BAD_END 10      /* operands are cut off, END is missing, or bytes follow it */
-#define JUNDRETHOL_OUT_OF_RANGE 11 /* an operand, k or a signed number is out of range */
+#define JUNDRETHOL_OUT_OF_RANGE 11 /* an operand, k or a signed number is out of range, or the stretches of LTZS overlap in part */
 #define JUNDRETHOL_BAD_PRESENT 12  /* a bit beyond n is set in present, or fewer than t + 1 parties are present */
 #define JUNDRETHOL_OUTPUT_SHORT 15 /* the output is shorter than the input */
 
-/* A command is refused because of the state: those before it stand, and it changes nothing. A forecast answers 21 to 24 where a run would. */
+/* A command is refused because of the state: those before it stand, and it changes nothing. Of LTZS no sign is then worked. A forecast answers 21
+ * to 24 where a run would. */
 #define JUNDRETHOL_UNSET 21           /* a register that is read is unset */
 #define JUNDRETHOL_NO_INPUT 22        /* no input row is left */
-#define JUNDRETHOL_NO_MASK 23         /* no mask is left */
+#define JUNDRETHOL_NO_MASK 23         /* fewer masks are left than the command takes: none, or for LTZS fewer than h */
 #define JUNDRETHOL_TOO_FEW_TRIPLES 24 /* fewer triples are left than the command takes */
 #define JUNDRETHOL_RECORD_FULL 25     /* the record cannot take all numbers of the command, n for each opening */
 #define JUNDRETHOL_REVEALED_FULL 26   /* the revealed list is full */
