@@ -113,7 +113,7 @@ module _ {s : List ℕ} {f : Frame} {k : Counts} {c : Command} {m : Lent} {S : S
       is-cut = cut-ready y (rw is at ready)
 
       pub cut-asks : CutRoom s (m .log) S at y × (d < 64) × (a < 64)
-      cut-asks = let R = is-cut in (rw (K .setting, K .places) (cut-room {m = m} R), R .d-in, R .a-in)
+      cut-asks = let R = is-cut in (rw (K .setting, K .places) (cut-room R), R .d-in, R .a-in)
 
       pub cut-done : {cells log : List ℕ} → Stored d (λ z. CutLeaves s S at y (registerIn (m .cells) a) z (m .log) log) (m .cells) cells
           → Performs s f k (meant c) m (lent cells log (m .shown))

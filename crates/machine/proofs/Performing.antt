@@ -160,6 +160,9 @@ cut-puts s f d a (Over w v) x = over-does (settingIn f) w v _ _ (x .deal)
 cut-puts s f d a (Blocks w l) x = blocks-does (settingIn f) w l _ _ (x .deal)
 
 -- what a cut costs and asks, whichever it is
+pub cut-room : {s : List ℕ} {f : Frame} {k : Counts} {cells log : List ℕ} {d a : ℕ} {y : Cut} → CutReady s f k cells log d a y → CutRoom s log (settingFrom f) (placesOf f k) y
+cut-room {k = k} {log = log} R = masked-room (R .framed) k log _ _ (R .width) (R .least) (R .less) (R .mask) (R .triples) (R .openings)
+
 module _ {s : List ℕ} {f : Frame} {k : Counts} {m : Lent} {d a : ℕ} where
   with-m : (y : Cut) {c : Command} → Ready s f k c m → cost (settingIn f) c ≡ masking d a (modTriples (f .l) (lowOf y)) → d < 64 → a < 64 → widthOf y ≤ f .largest → 1 ≤ lowOf y → lowOf y < widthOf y
       → CutReady s f k (m .cells) (m .log) d a y
@@ -184,9 +187,6 @@ module _ {s : List ℕ} {f : Frame} {k : Counts} {m : Lent} {d a : ℕ} where
   cut-ready (Ltz w) R = let r = operands (f .p) (f .largest) (LTZ d a w) (R .ranged) in with-m (Ltz w) R refl (r .0) (r .1 .0) (r .1 .1 .1 .0) (omega (arith, r .1 .1 .0)) (omega (arith, r .1 .1 .0))
   cut-ready (Over w v) R = let r = operands (f .p) (f .largest) (OVER d a w v) (R .ranged) in with-m (Over w v) R refl (r .0) (r .1 .0) (r .1 .1 .1 .0) (omega (arith, r .1 .1 .0)) (omega (arith, r .1 .1 .0))
   cut-ready (Blocks w l) R = let r = operands (f .p) (f .largest) (BLOCKS d a w l) (R .ranged) in with-m (Blocks w l) R refl (r .0) (r .1 .0) (r .1 .1 .1 .0) (r .1 .1 .1 .1 .0) (r .1 .1 .1 .1 .1 .0)
-
-  pub cut-room : {y : Cut} → CutReady s f k (m .cells) (m .log) d a y → CutRoom s (m .log) (settingFrom f) (placesOf f k) y
-  cut-room R = masked-room (R .framed) k (m .log) _ _ (R .width) (R .least) (R .less) (R .mask) (R .triples) (R .openings)
 
   pub cut-performs : {y : Cut} {cells log : List ℕ} → CutReady s f k (m .cells) (m .log) d a y
       → Stored d (λ z. CutLeaves s (settingFrom f) (placesOf f k) y (registerIn (m .cells) a) z (m .log) log) (m .cells) cells

@@ -43,7 +43,7 @@ module _ {s : List ℕ} {f : Frame} {k : Counts} {d a w : ℕ} where
 
     pub sign-asks : {S : Setting} {at : Places} → S ≡ settingFrom f → at ≡ placesOf f k → CutRoom s log S at (Ltz w) × (length cells ≡ 448) × (a < 64)
     sign-asks es ea =
-        (rw (es, ea) (cut-room {m = lent cells log []} {y = Ltz w} R), R .size, R .a-in)
+        (rw (es, ea) (cut-room R), R .size, R .a-in)
 
     pub sign-done : {S : Setting} {at : Places} {row : Row} {cells′ log′ : List ℕ} → S ≡ settingFrom f → at ≡ placesOf f k → length row ≡ 7
         → CutLeaves s S at (Ltz w) (registerIn cells a) row log log′ → cells′ ≡ ontoAt (7 * d) (take 7 row) cells → OnCells s f k (LTZ d a w) cells log cells′ log′
