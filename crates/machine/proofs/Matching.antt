@@ -89,9 +89,9 @@ module _ {s : List ℕ} {f : Frame} {k : Counts} {c : Command} {m : Lent} {S : S
     reveal-done is same W = done (rw (is, same) (reveal-performs (rw is at ready) (rw (K .setting, K .places) at W)))
 
     -- LTZS
-    pub signs-asks : {d a h w : ℕ} → meant c′ ≡ LTZS d a h w → length (m .shown) < 2 ^ 64 → SignsReady s f k (m .cells) (m .log) d a h w
+    pub signs-asks : {d a h w : ℕ} → meant c′ ≡ LTZS d a h w → SignsReady s f k (m .cells) (m .log) d a h w
     unfolding costBy
-    signs-asks {d} {a} {h} {w} is l =
+    signs-asks {d} {a} {h} {w} is =
         let R : Ready s f k (LTZS d a h w) m = rw is at ready in
         record {
           framed = R .framed;
@@ -100,7 +100,6 @@ module _ {s : List ℕ} {f : Frame} {k : Counts} {c : Command} {m : Lent} {S : S
           masks = R .masks;
           triples = R .triples;
           room = R .room;
-          revealed = omega (arith, R .space);
         }
 
     pub signs-done : {d a h w : ℕ} {cells log : List ℕ} → meant c′ ≡ LTZS d a h w → OnCells s f k (LTZS d a h w) (m .cells) (m .log) cells log

@@ -1,6 +1,6 @@
 -- LTZS on a table's cells: one LTZ by what the code did, what is counted after it, and so LTZ after LTZ.
 -- Assumes nothing.
-use mathlib.Core.Path.{_≡_, refl, sym, ap, _∙_}
+use mathlib.Core.Path.{_≡_, refl, ap, _∙_}
 use mathlib.Core.List.{List, []}
 use Prim.Native.Nat.{ℕ, zero, suc, _+_, _-_, _*_, _^_, _≤_, _<_}
 use native.Mathlib.Nat.{mul-le-mul-right}
@@ -8,7 +8,7 @@ use native.Mathlib.Omega.{arith}
 use lib.ListN.{length, take, length-append}
 use Rattle.algebra.specs.Lists.{first, ontoAt}
 use Rattle.model.specs.Deal.{Row}
-use Rattle.model.specs.Steps.{sign, written}
+use Rattle.model.specs.Steps.{sign}
 use Rattle.model.specs.Counts.{Counts, added}
 use Rattle.model.specs.Costs.{ofMask, ofMasks, modTriples, costBy}
 use Rattle.model.specs.Script.{LTZ, LTZS}
@@ -30,7 +30,7 @@ use Rattle.steps.specs.declared.cut.Cut.the-variants.{Ltz}
 use Rattle.steps.specs.Cuts.{CutRoom, CutLeaves}
 use Rattle.machine.specs.Cells.{registerIn, Stored}
 use Rattle.machine.specs.Places.{placesOf, Reached}
-use Rattle.machine.specs.Holding.{lent, Carries, Counting, Performs, CutReady, SignsReady, OnCells, inputsOf, dealOf}
+use Rattle.machine.specs.Holding.{lent, Carries, Counting, CutReady, SignsReady, OnCells, inputsOf, dealOf}
 use Rattle.machine.proofs.Cells.{stored, whole-row}
 use Rattle.machine.proofs.Readiness.{field-of, fitting, reached, mask-next}
 use Rattle.machine.proofs.Performing.{cut-room, cut-performs}
@@ -135,9 +135,9 @@ module _ {s : List ℕ} {f : Frame} {k : Counts} {d a h w : ℕ} {cells₀ log�
         })
 
   module _ {i : ℕ} {x y : Code.Counts} {cells log : List ℕ} (T : Turned s f k d a w cells₀ log₁ i (countsOf x) cells log) where
-    pub turn-sums : i < h → countsOf y ≡ ofMask (modTriples (f .l) (w - 1)) → k .inputs < 2 ^ 64 → f .masks < 2 ^ 64 → f .triples < 2 ^ 64 → length log < 2 ^ 64
+    pub turn-sums : i < h → countsOf y ≡ ofMask (modTriples (f .l) (w - 1)) → k .inputs < 2 ^ 64 → k .revealed < 2 ^ 64 → f .masks < 2 ^ 64 → f .triples < 2 ^ 64 → length log < 2 ^ 64
         → Summing x y
-    turn-sums l e hi hm ht hl =
+    turn-sums l e hi hr hm ht hl =
         let C = turn-ready T l in
         let o : (x .openings + (1 + 2 * modTriples (f .l) (w - 1))) ≤ (x .openings + (1 + 2 * modTriples (f .l) (w - 1))) * f .n = at-least _ (f .n) (omega (arith, R .framed .headed .parties .least)) in
         record {
@@ -145,7 +145,7 @@ module _ {s : List ℕ} {f : Frame} {k : Counts} {d a h w : ℕ} {cells₀ log�
           masks = rw (ap (λ (v : Counts). v .masks) e) (omega (arith, C .mask));
           triples = rw (ap (λ (v : Counts). v .triples) e) (omega (arith, C .triples));
           openings = rw (ap (λ (v : Counts). v .openings) e) (omega (arith, C .openings, o));
-          revealed = rw (ap (λ (v : Counts). v .revealed) e) (omega (arith, ap (λ (v : Counts). v .revealed) (T .spent-is), R .revealed));
+          revealed = rw (ap (λ (v : Counts). v .revealed) e) (omega (arith, ap (λ (v : Counts). v .revealed) (T .spent-is)));
         }
       where
         at-least : (v n : ℕ) → 1 ≤ n → v ≤ v * n

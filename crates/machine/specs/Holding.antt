@@ -2,7 +2,7 @@
 -- Assumes nothing.
 use mathlib.Core.Path.{_≡_}
 use mathlib.Core.List.{List}
-use Prim.Native.Nat.{ℕ, _+_, _-_, _*_, _^_, _≤_, _<_}
+use Prim.Native.Nat.{ℕ, _+_, _-_, _*_, _≤_, _<_}
 use lib.Dec.{T}
 use lib.ListN.{length, drop}
 use Rattle.algebra.specs.Lists.{Below, onto}
@@ -89,4 +89,3 @@ pub record SignsReady (s : List ℕ) (f : Frame) (k : Counts) (cells log : List 
   pub masks : k .masks + h ≤ f .masks
   pub triples : k .triples + h * modTriples (f .l) (w - 1) ≤ f .triples
   pub room : (k .openings + h * (1 + 2 * modTriples (f .l) (w - 1))) * f .n ≤ length log
-  pub revealed : k .revealed < 2 ^ 64

@@ -1,6 +1,6 @@
 -- `cutting::signs_in` meets its contract. The loop's invariant: i LTZ are done.
 -- Assumes nothing.
-use mathlib.Core.Path.{_≡_, ap, _∙_}
+use mathlib.Core.Path.{ap, _∙_}
 use Prim.Native.Nat.{_-_, _^_, _≤_, _<_}
 use native.Mathlib.Omega.{arith}
 use lib.ListN.{length}
@@ -16,6 +16,9 @@ Inv-loop f spent₀ s log₀ cells₀ d a h k one i₀ spent log cells i = (i �
 
 abbrev μ-loop : tie.MeasureT-loop
 μ-loop f spent₀ s log₀ cells₀ d a h k one i₀ spent log cells i = h - i
+
+revealed-fits : (c : tie.After-of-mask Inv-loop μ-loop) → c .before .before .before .before .args .spent .revealed < 2 ^ 64
+revealed-fits c = search needs
 
 sub-of-mask : tie.Need-sub-of-mask Inv-loop μ-loop
 sub-of-mask c = signs-k (c .before .before .before .pre) .1
@@ -50,7 +53,7 @@ added-requires c κs =
     let hm : start .args .f .masks < 2 ^ 64 = search needs in
     let ht : start .args .f .triples < 2 ^ 64 = search needs in
     let hl : length (turn .loop .log) < 2 ^ 64 = search needs in
-    turn-sums (start .pre) (turn .loop .inv .1) (test .loop-test .taken) (turn .before .of-mask .ensures) hi hm ht hl
+    turn-sums (start .pre) (turn .loop .inv .1) (test .loop-test .taken) (turn .before .of-mask .ensures) hi (revealed-fits (turn .before)) hm ht hl
 
 loop-again : tie.Need-loop-again Inv-loop μ-loop
 loop-again c =

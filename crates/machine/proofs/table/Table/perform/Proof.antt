@@ -1,6 +1,6 @@
 -- `Table::perform` meets its contract: by the command.
 -- Assumes nothing.
-use mathlib.Core.Path.{_≡_, refl, ap}
+use mathlib.Core.Path.{refl, ap}
 use Prim.Native.Nat.{_^_, _<_}
 use lib.ListN.{length}
 use denote.Ref.{now}
@@ -31,9 +31,6 @@ known : (c : tie.After-places-of)
     → Known (now (start c .args .s)) (start c .args .f) (countsOf (start c .args .self .spent .counts)) (start c .args .c)
     (lent (start c .args .self .cells) (now (start c .args .log)) (now (start c .args .revealed))) (c .before .before .setting .result) (c .places-of .result)
 known c = record { is-ready = start c .pre; setting = c .before .before .setting .ensures; places = c .places-of .ensures }
-
-shown-fits : (c : tie.After-places-of) → length (now (start c .args .revealed)) < 2 ^ 64
-shown-fits c = search needs
 
 load-requires : tie.Need-load-requires
 unfolding costBy
@@ -72,19 +69,19 @@ multiply-requires c κs =
     (has-room K e 1 (ready K e .triples) (ready K e .room), r .0, r .1 .0, r .1 .1 .0)
 
 cut-requires : tie.Need-cut-requires
-cut-requires c κs = cut-asks (known (c .before .before .before .before .before .before)) (c .before .before .before .before .c7 .given .1) _ _ (Mod _ _) refl
+cut-requires c κs = cut-asks (known (c .before .before .before .before)) (c .before .before .c7 .given .1) _ _ (Mod _ _) refl
 
 cut-requires-2 : tie.Need-cut-requires-2
-cut-requires-2 c κs = cut-asks (known (c .before .before .before .before .before .before)) (c .before .before .before .before .c8 .given .1) _ _ (Trunc _ _) refl
+cut-requires-2 c κs = cut-asks (known (c .before .before .before .before)) (c .before .before .c8 .given .1) _ _ (Trunc _ _) refl
 
 cut-requires-3 : tie.Need-cut-requires-3
-cut-requires-3 c κs = cut-asks (known (c .before .before .before .before .before .before)) (c .before .before .before .before .c9 .given .1) _ _ (Ltz _) refl
+cut-requires-3 c κs = cut-asks (known (c .before .before .before .before)) (c .before .before .c9 .given .1) _ _ (Ltz _) refl
 
 cut-requires-4 : tie.Need-cut-requires-4
-cut-requires-4 c κs = cut-asks (known (c .before .before .before .before .before .before)) (c .before .before .before .before .c10 .given .1) _ _ (Over _ _) refl
+cut-requires-4 c κs = cut-asks (known (c .before .before .before .before)) (c .before .before .c10 .given .1) _ _ (Over _ _) refl
 
 cut-requires-5 : tie.Need-cut-requires-5
-cut-requires-5 c κs = cut-asks (known (c .before .before .before .before .before .before)) (c .before .before .before .before .c11 .given .1) _ _ (Blocks _ _) refl
+cut-requires-5 c κs = cut-asks (known (c .before .before .before .before)) (c .before .before .c11 .given .1) _ _ (Blocks _ _) refl
 
 reveal-requires : tie.Need-reveal-requires
 reveal-requires c κs = reveal-asks (known (c .before .before .before .before .before)) (c .before .before .before .c12 .given .1) refl
@@ -100,7 +97,7 @@ compare-requires c κs =
 signs-requires : tie.Need-signs-requires
 signs-requires c κs =
     let K = known (c .before .before .before .before) in
-    signs-asks K (c .before .before .c14 .given .1) refl (shown-fits (c .before .before .before .before))
+    signs-asks K (c .before .before .c14 .given .1) refl
 
 returns : tie.Need-returns
 returns c =
@@ -142,32 +139,32 @@ returns-6 c =
 returns-7 : tie.Need-returns-7
 returns-7 c =
     let call = c .before .before in
-    let K = known (call .before .before .before .before .before .before .before) in
-    (call .cut .ensures .1, cut-done K (call .before .before .before .before .before .c7 .given .1) _ _ (Mod _ _) refl (call .cut .ensures .0))
+    let K = known (call .before .before .before .before .before) in
+    (call .cut .ensures .1, cut-done K (call .before .before .before .c7 .given .1) _ _ (Mod _ _) refl (call .cut .ensures .0))
 
 returns-8 : tie.Need-returns-8
 returns-8 c =
     let call = c .before .before in
-    let K = known (call .before .before .before .before .before .before .before) in
-    (call .cut2 .ensures .1, cut-done K (call .before .before .before .before .before .c8 .given .1) _ _ (Trunc _ _) refl (call .cut2 .ensures .0))
+    let K = known (call .before .before .before .before .before) in
+    (call .cut2 .ensures .1, cut-done K (call .before .before .before .c8 .given .1) _ _ (Trunc _ _) refl (call .cut2 .ensures .0))
 
 returns-9 : tie.Need-returns-9
 returns-9 c =
     let call = c .before .before in
-    let K = known (call .before .before .before .before .before .before .before) in
-    (call .cut3 .ensures .1, cut-done K (call .before .before .before .before .before .c9 .given .1) _ _ (Ltz _) refl (call .cut3 .ensures .0))
+    let K = known (call .before .before .before .before .before) in
+    (call .cut3 .ensures .1, cut-done K (call .before .before .before .c9 .given .1) _ _ (Ltz _) refl (call .cut3 .ensures .0))
 
 returns-10 : tie.Need-returns-10
 returns-10 c =
     let call = c .before .before in
-    let K = known (call .before .before .before .before .before .before .before) in
-    (call .cut4 .ensures .1, cut-done K (call .before .before .before .before .before .c10 .given .1) _ _ (Over _ _) refl (call .cut4 .ensures .0))
+    let K = known (call .before .before .before .before .before) in
+    (call .cut4 .ensures .1, cut-done K (call .before .before .before .c10 .given .1) _ _ (Over _ _) refl (call .cut4 .ensures .0))
 
 returns-11 : tie.Need-returns-11
 returns-11 c =
     let call = c .before .before in
-    let K = known (call .before .before .before .before .before .before .before) in
-    (call .cut5 .ensures .1, cut-done K (call .before .before .before .before .before .c11 .given .1) _ _ (Blocks _ _) refl (call .cut5 .ensures .0))
+    let K = known (call .before .before .before .before .before) in
+    (call .cut5 .ensures .1, cut-done K (call .before .before .before .c11 .given .1) _ _ (Blocks _ _) refl (call .cut5 .ensures .0))
 
 returns-12 : tie.Need-returns-12
 returns-12 c =
