@@ -32,8 +32,8 @@ extern "C" {
 
 /* The version of this header and of the archive that is built beside it. While the first number stays, refusals and places in counts keep their
  * numbers, functions their parameters, and a function call that answers 0, 21 to 26 or 31 to 33 leaves the same values. A higher second number
- * may add functions, refusals, and counts after the last, and may accept what was refused with 1 to 20, but for 15: an output that is shorter
- * than the input stays refused. Where the first number grows, the second starts at 0. */
+ * may add functions, refusals, and counts after the last, and may accept what was refused with 1 to 20, or refuse it with another number or at
+ * another place, but for 15: an output that is shorter than the input stays refused. Where the first number grows, the second starts at 0. */
 #define JUNDRETHOL_VERSION_MAJOR 3
 #define JUNDRETHOL_VERSION_MINOR 2
 
@@ -51,7 +51,7 @@ extern "C" {
 #define JUNDRETHOL_BAD_TRIPLE 8    /* a triple is not well formed */
 #define JUNDRETHOL_BAD_COMMAND 9   /* a command byte is over 0x0E */
 #define JUNDRETHOL_BAD_END 10      /* operands are cut off, END is missing, or bytes follow it */
-#define JUNDRETHOL_OUT_OF_RANGE 11 /* an operand, k or a signed number is out of range, or the stretches of LTZS overlap in part */
+#define JUNDRETHOL_OUT_OF_RANGE 11 /* an operand, k or a signed number is out of range, or the registers that LTZS reads and writes overlap in part */
 #define JUNDRETHOL_BAD_PRESENT 12  /* a bit beyond n is set in present, or fewer than t + 1 parties are present */
 #define JUNDRETHOL_OUTPUT_SHORT 15 /* the output is shorter than the input */
 

@@ -9,7 +9,7 @@ ghost use Rattle.model.specs.Bytes as Bytes;
 use machine::run;
 use outcome::outcome;
 
-// Case by case, so that no list has to take them all.
+// Case by case, so that no list has to take them all; at most 100,000.
 fn main() {
     let mut left = 100000usize;
     while 0 < left {
@@ -20,7 +20,7 @@ fn main() {
     }
 }
 
-// Whether there was a case: it ends where bytes are missing or a length is too large.
+// Whether a case was read and run: not where bytes are missing or a length is too large.
 fn run_case() -> bool {
     let mut head = [0u8; 13];
     if io::read_full(0, &mut head) < 13 {

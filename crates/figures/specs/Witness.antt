@@ -1,4 +1,4 @@
--- The claims about accepted sheets are not empty: a sheet that is accepted, and whose run finishes each of the fifteen kinds of command.
+-- The claims about accepted sheets are not empty: a sheet that is accepted, and whose run finishes each of the fourteen kinds of command and comes to END.
 -- Assumes nothing.
 use mathlib.Core.Path.{_≡_}
 use mathlib.Core.List.{List, [], _∷_, map}

@@ -68,7 +68,7 @@ Performs s f k c m m′ =
 abbrev pub OnCells : List ℕ → Frame → Counts → Command → List ℕ → List ℕ → List ℕ → List ℕ → Type 0
 OnCells s f k c cells log cells′ log′ = (shown : List ℕ) → Performs s f k c (lent cells log shown) (lent cells′ log′ shown)
 
--- what a cut of register a into register d asks of cells and record, whichever it is
+-- what a cut of register a into register d asks, whichever cut it is
 pub record CutReady (s : List ℕ) (f : Frame) (k : Counts) (cells log : List ℕ) (d a : ℕ) (y : Cut) : Type 0 where
   pub framed : Framed s f
   pub size : length cells ≡ 448
@@ -81,7 +81,7 @@ pub record CutReady (s : List ℕ) (f : Frame) (k : Counts) (cells log : List �
   pub triples : k .triples + modTriples (f .l) (lowOf y) ≤ f .triples
   pub openings : (k .openings + (1 + 2 * modTriples (f .l) (lowOf y))) * f .n ≤ length log
 
--- and what LTZS d a h w asks
+-- what LTZS d a h w asks
 pub record SignsReady (s : List ℕ) (f : Frame) (k : Counts) (cells log : List ℕ) (d a h w : ℕ) : Type 0 where
   pub framed : Framed s f
   pub ranged : T (inRanges (f .p) (f .largest) (LTZS d a h w))

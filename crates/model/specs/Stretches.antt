@@ -43,14 +43,15 @@ pub record AsSigns (S : Setting) (d a h k : ℕ) : Type 0 where
   -- "When it finishes, cells, record and counts equal those of h LTZ commands in rising order.": so do the marks, the revealed list and what is left of
   -- the deal, from whatever state
   pub finishes-as : (input : List Row) (s : State) → finish S input (LTZS d a h k) s ≡ finishAll S input (risingLTZ d a h k) s
-  -- "21 to 25 speak of the whole command": it finishes exactly where all h would, whatever there is and was spent
+  -- "21 to 25 speak of the whole command": it finishes exactly where all h would, whatever there is and was spent. With which number it does not, `check` of
+  -- its cost says.
   pub all-if-finishes : (u : Supply) (s : Spent) → check u (cost S (LTZS d a h k)) s ≡ 0 → AllFinish S u (risingLTZ d a h k) s
   pub finishes-if-all : (u : Supply) (s : Spent) → AllFinish S u (risingLTZ d a h k) s → check u (cost S (LTZS d a h k)) s ≡ 0
-  -- so a run that it does not end is the run of lines that have the h LTZ in its place, at whatever offsets
+  -- so where the checks let it through, the run from its line on is the run of lines that have the h LTZ in its place, at whatever offsets
   pub runs-as : (u : Supply) (input : List Row) (end place : ℕ) (ys xs : List Line) (s : State) → map (λ y. y .command) ys ≡ risingLTZ d a h k
       → check u (cost S (LTZS d a h k)) (s .spent) ≡ 0
       → runLines S u input end (record { place = place; command = LTZS d a h k } ∷ xs) s ≡ runLines S u input end (ys ++ xs) s
-  -- and a run that it ends has its number and its place, and stops in the state before it: none of the h is done
+  -- and where they do not, the run has its number and its place, and stops in the state before it: none of the h is done
   pub ends-whole : (u : Supply) (input : List Row) (end place : ℕ) (xs : List Line) (s : State) → (check u (cost S (LTZS d a h k)) (s .spent) ≡ 0 → ⊥)
       → runLines S u input end (record { place = place; command = LTZS d a h k } ∷ xs) s
       ≡ record { number = check u (cost S (LTZS d a h k)) (s .spent); place = place; state = s }
