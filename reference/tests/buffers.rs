@@ -3,19 +3,19 @@
 mod files;
 
 use files::text;
-use reference::{calls, case, cases, columns, forecast, run_case, sheets, steps};
+use reference::{calls, case, cases, columns, forecast, sheets, steps};
 
-/// The bytes that the program of this crate can read.
-fn buffer(name: &str) -> usize {
+/// The number that stands between these words in the program of this crate.
+fn number(name: &str, before: &str, after: &str) -> usize {
     let program = text(&format!("crates/{name}/src/main.rt"));
-    let (_, rest) = program.split_once("let mut input = [0u8; ").unwrap();
-    let (length, _) = rest.split_once("];").unwrap();
-    length.parse().unwrap()
+    let (_, rest) = program.split_once(before).unwrap();
+    let (number, _) = rest.split_once(after).unwrap();
+    number.parse().unwrap()
 }
 
 fn leave_a_place<T>(name: &str, cases: Vec<T>, to_bytes: fn(&T) -> Vec<u8>) {
     let length: usize = cases.iter().map(|case| to_bytes(case).len()).sum();
-    let buffer = buffer(name);
+    let buffer = number(name, "let mut input = [0u8; ", "];");
     assert!(length < buffer, "{name}: {length} of {buffer}");
 }
 
@@ -24,11 +24,24 @@ fn stored_cases_leave_a_place_in_the_program_s_buffer() {
     leave_a_place("entries", cases::all(), case::Case::to_bytes);
     let all = steps::cases::all();
     leave_a_place("step_cases", all, steps::case::StepCase::to_bytes);
-    leave_a_place("cases", sheets::stored::all(), run_case::Case::to_bytes);
     let all = calls::stored::all();
     leave_a_place("call_cases", all, calls::case::Case::to_bytes);
     let all = columns::stored::all();
     leave_a_place("column_cases", all, columns::case::Case::to_bytes);
     let all = forecast::stored::all();
     leave_a_place("forecast_cases", all, forecast::case::Case::to_bytes);
+}
+
+/// Program cases reads case by case.
+#[test]
+fn stored_runs_are_no_more_than_the_program_takes_and_fit_its_buffers() {
+    let cases = sheets::stored::all();
+    assert!(cases.len() <= number("cases", "let mut left = ", "usize;"));
+    let room = number("cases", "let mut room = [0u8; ", "];");
+    let record = number("cases", "let mut log = [7777777u32; ", "];");
+    let revealed = number("cases", "let mut revealed = [7777777u32; ", "];");
+    for case in cases {
+        assert!(case.sheet.len() <= room);
+        assert!(case.record <= record && case.revealed <= revealed);
+    }
 }
