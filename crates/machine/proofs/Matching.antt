@@ -22,10 +22,10 @@ use Rattle.script.specs.Meaning.{meant}
 use Rattle.costs.specs.declared.cost.Cost.{Cost}
 use Rattle.costs.specs.Costing.{countsOf, costOf, spentOf}
 use Rattle.steps.specs.declared.places.Places.{Places}
-use Rattle.steps.specs.declared.cut.Cut.{Cut}
+use Rattle.cuts.specs.declared.cut.Cut.{Cut}
 use Rattle.steps.specs.Places.{Room}
 use Rattle.steps.specs.Promises.{StepLeaves}
-use Rattle.steps.specs.Cuts.{CutRoom, CutLeaves}
+use Rattle.cuts.specs.Cuts.{CutRoom, CutLeaves}
 use Rattle.algebra.specs.Lists.{Below}
 use Rattle.machine.specs.Cells.{registerIn, Stored, Revealed}
 use Rattle.machine.specs.Places.{placesOf, Reached}

@@ -19,10 +19,10 @@ use Rattle.model.proofs.Operands.{operands}
 use Rattle.model.proofs.StepLaws.{made, Puts, product-does, comparison-does, remainder-does, floor-does, sign-does, over-does, blocks-does}
 use Rattle.sheet.specs.declared.frame.Frame.{Frame}
 use Rattle.sheet.specs.Framed.{settingFrom, settingIn}
-use Rattle.steps.specs.declared.cut.Cut.{Cut}
-use Rattle.steps.specs.declared.cut.Cut.the-variants.{Mod, Trunc, Ltz, Over, Blocks}
+use Rattle.cuts.specs.declared.cut.Cut.{Cut}
+use Rattle.cuts.specs.declared.cut.Cut.the-variants.{Mod, Trunc, Ltz, Over, Blocks}
 use Rattle.steps.specs.Promises.{StepLeaves, MaskedLeaves, Left}
-use Rattle.steps.specs.Cuts.{widthOf, lowOf, cutStep, CutRoom, CutLeaves}
+use Rattle.cuts.specs.Cuts.{widthOf, lowOf, cutStep, CutRoom, CutLeaves}
 use Rattle.machine.specs.Cells.{registerIn, Stored, Revealed}
 use Rattle.machine.specs.Places.{inputPlace, placesOf}
 use Rattle.machine.specs.Holding.{Lent, lent, Carries, Counting, Ready, Performs, CutReady, inputsOf}

@@ -26,8 +26,8 @@ use Rattle.costs.specs.Costing.{countsOf, Summing}
 use Rattle.sheet.specs.declared.frame.Frame.{Frame}
 use Rattle.sheet.specs.Framed.{settingFrom, settingIn}
 use Rattle.steps.specs.declared.places.Places.{Places}
-use Rattle.steps.specs.declared.cut.Cut.the-variants.{Ltz}
-use Rattle.steps.specs.Cuts.{CutRoom, CutLeaves}
+use Rattle.cuts.specs.declared.cut.Cut.the-variants.{Ltz}
+use Rattle.cuts.specs.Cuts.{CutRoom, CutLeaves}
 use Rattle.machine.specs.Cells.{registerIn, Stored}
 use Rattle.machine.specs.Places.{placesOf, Reached}
 use Rattle.machine.specs.Holding.{lent, Carries, Counting, CutReady, SignsReady, OnCells, inputsOf, dealOf}

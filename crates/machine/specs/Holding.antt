@@ -16,8 +16,8 @@ use Rattle.model.specs.Run.{State, finish}
 use Rattle.sheet.specs.declared.frame.Frame.{Frame}
 use Rattle.sheet.specs.Framed.{settingIn, Framed}
 pub use Rattle.sheet.specs.Framed.{inputsOf, dealOf}
-use Rattle.steps.specs.declared.cut.Cut.{Cut}
-use Rattle.steps.specs.Cuts.{widthOf, lowOf}
+use Rattle.cuts.specs.declared.cut.Cut.{Cut}
+use Rattle.cuts.specs.Cuts.{widthOf, lowOf}
 use Rattle.machine.specs.Cells.{registerIn}
 
 -- what a run writes: the cells of the registers, the record and the revealed list

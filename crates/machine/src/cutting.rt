@@ -4,8 +4,8 @@ ghost use Prim.Native.Nat.{_<_};
 ghost use lib.ListN.{length};
 ghost use Rattle.model.specs.Script.{LTZ, LTZS};
 ghost use Rattle.costs.specs.Costing.{countsOf};
-ghost use Rattle.steps.specs.declared.cut.Cut.the-variants.{Ltz};
-ghost use Rattle.steps.specs.Cuts.{CutRoom, CutLeaves};
+ghost use Rattle.cuts.specs.declared.cut.Cut.the-variants.{Ltz};
+ghost use Rattle.cuts.specs.Cuts.{CutRoom, CutLeaves};
 ghost use Rattle.machine.specs.Cells.{registerIn, Stored};
 ghost use Rattle.machine.specs.Holding.{CutReady, SignsReady, OnCells};
 use crate::table::Table;
@@ -13,12 +13,12 @@ use crate::table::places_of;
 use crate::table::register;
 use costs::counts;
 use costs::counts::Counts;
+use cuts::cut;
+use cuts::cut::Cut;
 use secret::Row;
 use sharing::rows;
 use sharing::setting::Setting;
 use sheet::frame::Frame;
-use steps::cut;
-use steps::cut::Cut;
 use steps::places::Places;
 
 // The row that a cut of register a leaves, of a table's cells, which are lent.

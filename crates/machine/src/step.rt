@@ -7,9 +7,9 @@ ghost use Rattle.machine.specs.Answers.{Payable, Finishes};
 use crate::table::Table;
 use crate::table::places_of;
 use costs::cost::Cost;
+use cuts::cut::Cut;
 use script::command::Command;
 use sheet::frame::Frame;
-use steps::cut::Cut;
 
 impl Table {
     // The command performed. What was spent before it gives the next places of mask, triple and record.

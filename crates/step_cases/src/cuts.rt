@@ -3,16 +3,16 @@ ghost use mathlib.Core.Path.{_≡_};
 ghost use Prim.Native.Nat.{_+_, _*_, _≤_, _<_};
 ghost use lib.ListN.{length};
 ghost use Rattle.model.specs.Fields as Fields;
-ghost use Rattle.steps.specs.Cuts.{widthOf, lowOf};
+ghost use Rattle.cuts.specs.Cuts.{widthOf, lowOf};
 ghost use Rattle.step_cases.specs.Placed.{Placed, Maskable};
 use crate::numbers::times;
 use crate::numbers::width;
 use crate::numbers::word;
 use crate::print::answer;
+use cuts::cut;
+use cuts::cut::Cut;
 use sharing::rows;
 use sharing::setting::Setting;
-use steps::cut;
-use steps::cut::Cut;
 use steps::places::Places;
 
 // The step of a case, with its numbers.

@@ -6,4 +6,3 @@ pub mod Comparing
 pub mod Putting
 pub mod Spelling
 pub mod Remainders
-pub mod Cuts

@@ -1,4 +1,3 @@
 pub mod Places
 pub mod Promises
 pub mod Remainders
-pub mod Cuts

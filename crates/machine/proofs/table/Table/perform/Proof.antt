@@ -7,7 +7,7 @@ use denote.Ref.{now}
 use borrow.Author.Needs.{needs}
 use Rattle.model.specs.Costs.{costBy}
 use Rattle.costs.specs.Costing.{countsOf}
-use Rattle.steps.specs.declared.cut.Cut.the-variants.{Mod, Trunc, Ltz, Over, Blocks}
+use Rattle.cuts.specs.declared.cut.Cut.the-variants.{Mod, Trunc, Ltz, Over, Blocks}
 use Rattle.machine.specs.declared.table.Table.{Table}
 use Rattle.machine.specs.Holding.{lent}
 use Rattle.machine.proofs.Readiness.{input-fits}

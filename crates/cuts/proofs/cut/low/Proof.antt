@@ -1,8 +1,8 @@
 -- `cut::low` meets its contract: kind by kind.
 -- Assumes nothing.
 use borrow.Author.Needs.{needs}
-use Rattle.steps.proofs.cut.low.Statement.{statement}
-use Rattle.steps.proofs.cut.low.Tie as tie
+use Rattle.cuts.proofs.cut.low.Statement.{statement}
+use Rattle.cuts.proofs.cut.low.Tie as tie
 
 sub-result : tie.Need-sub-result
 sub-result c = rw (c .before .c3 .given .1) at (c .before .before .before .pre)

@@ -7,11 +7,11 @@ use Rattle.model.specs.Deal as Paper
 use Rattle.model.specs.Steps.{Step, plus, minus, constant, quotient, remainder, floor, sign, over, blocks}
 use Rattle.sharing.specs.Settings.{settingOf}
 use Rattle.sharing.specs.declared.setting.Setting.{Setting}
-use Rattle.steps.specs.declared.cut.Cut.{Cut}
-use Rattle.steps.specs.declared.cut.Cut.the-variants.{Mod, Trunc, Ltz, Over, Blocks}
+use Rattle.cuts.specs.declared.cut.Cut.{Cut}
+use Rattle.cuts.specs.declared.cut.Cut.the-variants.{Mod, Trunc, Ltz, Over, Blocks}
 use Rattle.steps.specs.declared.places.Places.{Places}
 use Rattle.steps.specs.Places.{MaskedRoom}
 use Rattle.steps.specs.Promises.{maskAt, MaskedLeaves}
 
 -- k and m, for LTZ and OVER "with m = k − 1"
 abbrev pub widthOf : Cut → ℕ

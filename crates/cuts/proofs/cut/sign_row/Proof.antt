@@ -1,8 +1,8 @@
 -- `cut::sign_row` meets its contract: zero less the quotient.
 -- Assumes nothing.
 use borrow.Author.Needs.{needs}
-use Rattle.steps.proofs.cut.sign_row.Statement.{statement}
-use Rattle.steps.proofs.cut.sign_row.Tie as tie
+use Rattle.cuts.proofs.cut.sign_row.Statement.{statement}
+use Rattle.cuts.proofs.cut.sign_row.Tie as tie
 
 pub sign-row-spec : {M : Type 1} → statement M
 sign-row-spec =

@@ -3,13 +3,13 @@ ghost use mathlib.Core.Path.{_≡_};
 ghost use Prim.Native.Nat.{_-_, _^_, _≤_, _<_};
 ghost use Rattle.model.specs.Steps as Steps;
 ghost use Rattle.sharing.specs.Settings.{settingOf, Fitting};
-ghost use Rattle.steps.specs.Cuts.{CutRoom, CutLeaves, widthOf, lowOf, beforeRow, afterRow};
-use crate::places::Places;
-use crate::remainder;
+ghost use Rattle.cuts.specs.Cuts.{CutRoom, CutLeaves, widthOf, lowOf, beforeRow, afterRow};
 use field::arithmetic;
 use secret::Row;
 use sharing::rows;
 use sharing::setting::Setting;
+use steps::places::Places;
+use steps::remainder;
 
 // The commands that rest on MOD, with their numbers.
 pub enum Cut {

@@ -7,11 +7,11 @@ use Rattle.model.specs.Steps.{Setting, Row, Deal, Step, plus, minus, constant, 
 use Rattle.model.proofs.StepLaws.{floor-is, sign-is, over-is, blocks-is}
 use Rattle.sharing.specs.Settings.{settingOf}
 use Rattle.sharing.specs.declared.setting.Setting as Code
-use Rattle.steps.specs.declared.cut.Cut.{Cut}
-use Rattle.steps.specs.declared.cut.Cut.the-variants.{Mod, Trunc, Ltz, Over, Blocks}
+use Rattle.cuts.specs.declared.cut.Cut.{Cut}
+use Rattle.cuts.specs.declared.cut.Cut.the-variants.{Mod, Trunc, Ltz, Over, Blocks}
 use Rattle.steps.specs.declared.places.Places.{Places}
 use Rattle.steps.specs.Promises.{MaskedLeaves}
-use Rattle.steps.specs.Cuts.{widthOf, lowOf, cutStep, beforeRow, afterRow}
+use Rattle.cuts.specs.Cuts.{widthOf, lowOf, cutStep, beforeRow, afterRow}
 
 module _ (S : Setting) where
   -- the step that leaves another row

@@ -1,8 +1,8 @@
 -- `cut::before` meets its contract: kind by kind.
 -- Assumes nothing.
 use borrow.Author.Needs.{needs}
-use Rattle.steps.proofs.cut.before.Statement.{statement}
-use Rattle.steps.proofs.cut.before.Tie as tie
+use Rattle.cuts.proofs.cut.before.Statement.{statement}
+use Rattle.cuts.proofs.cut.before.Tie as tie
 
 sum-row-requires : tie.Need-sum-row-requires
 sum-row-requires c κs = rw (c .before .c2 .given .1) at (c .before .before .before .pre)

@@ -1,8 +1,8 @@
 -- `cut::quotient_row` meets its contract: the difference, scaled.
 -- Assumes nothing.
 use borrow.Author.Needs.{needs}
-use Rattle.steps.proofs.cut.quotient_row.Statement.{statement}
-use Rattle.steps.proofs.cut.quotient_row.Tie as tie
+use Rattle.cuts.proofs.cut.quotient_row.Statement.{statement}
+use Rattle.cuts.proofs.cut.quotient_row.Tie as tie
 
 pub quotient-row-spec : {M : Type 1} → statement M
 quotient-row-spec =

@@ -1,8 +1,8 @@
 -- `cut::after` meets its contract: kind by kind.
 -- Assumes nothing.
 use borrow.Author.Needs.{needs}
-use Rattle.steps.proofs.cut.after.Statement.{statement}
-use Rattle.steps.proofs.cut.after.Tie as tie
+use Rattle.cuts.proofs.cut.after.Statement.{statement}
+use Rattle.cuts.proofs.cut.after.Tie as tie
 
 returns : tie.Need-returns
 returns c = rw (c .enum-told .given .1)

@@ -1,11 +1,11 @@
 -- `cut::cut_row` meets its contract: a remainder between two maps.
 -- Assumes nothing.
-use Rattle.steps.proofs.Cuts.{cut-leaves}
+use Rattle.cuts.proofs.Cuts.{cut-leaves}
 use Rattle.steps.proofs.Powers.{power-below}
 use borrow.Author.Needs.{needs}
 use native.Mathlib.Omega.{arith}
-use Rattle.steps.proofs.cut.cut_row.Statement.{statement}
-use Rattle.steps.proofs.cut.cut_row.Tie as tie
+use Rattle.cuts.proofs.cut.cut_row.Statement.{statement}
+use Rattle.cuts.proofs.cut.cut_row.Tie as tie
 
 before-requires : tie.Need-before-requires
 before-requires c κs =

@@ -1,10 +1,10 @@
 -- `cut::sum_row` meets its contract: 2^m is below p, so it is its own residue.
 -- Assumes nothing.
 use Rattle.steps.proofs.Powers.{power-is, power-above}
 use borrow.Author.Needs.{needs}
 use native.Mathlib.Omega.{arith}
-use Rattle.steps.proofs.cut.sum_row.Statement.{statement}
-use Rattle.steps.proofs.cut.sum_row.Tie as tie
+use Rattle.cuts.proofs.cut.sum_row.Statement.{statement}
+use Rattle.cuts.proofs.cut.sum_row.Tie as tie
 
 returns : tie.Need-returns
 returns c =
