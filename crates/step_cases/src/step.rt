@@ -6,7 +6,7 @@ ghost use Rattle.model.specs.Fields as Fields;
 ghost use Rattle.sharing.specs.Settings.{Fitting};
 ghost use Rattle.step_cases.specs.Words.{maskRows};
 ghost use Rattle.step_cases.specs.Placed.{Placed, Comparable};
-use crate::cuts;
+use crate::masked;
 use crate::numbers::times;
 use crate::numbers::up_to;
 use crate::numbers::word;
@@ -99,7 +99,7 @@ fn run_step(s: &[u8], field: usize, setting: Setting, at: Places)
     match word(s, 0) {
         6 => multiply(s, setting, at),
         13 => compare(s, setting, at),
-        _ => cuts::run_cuts(s, field, setting, at),
+        _ => masked::run_cuts(s, field, setting, at),
     }
 }
 

@@ -1,9 +1,9 @@
--- `cuts::run_low` is safe: its triples are there, and its openings have room.
+-- `masked::run_low` is safe: its triples are there, and its openings have room.
 -- Assumes nothing.
 use borrow.Author.Needs.{needs}
 use native.Mathlib.Omega.{arith}
-use Rattle.step_cases.proofs.cuts.run_low.Statement.{statement}
-use Rattle.step_cases.proofs.cuts.run_low.Tie as tie
+use Rattle.step_cases.proofs.masked.run_low.Statement.{statement}
+use Rattle.step_cases.proofs.masked.run_low.Tie as tie
 
 cut-row-requires : tie.Need-cut-row-requires
 cut-row-requires c κs =

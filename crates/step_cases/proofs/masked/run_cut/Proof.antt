@@ -1,10 +1,10 @@
--- `cuts::run_cut` is safe: what was tested holds.
+-- `masked::run_cut` is safe: what was tested holds.
 -- Assumes nothing.
 use mathlib.Core.Path.{sym}
 use borrow.Author.Needs.{needs}
 use native.Mathlib.Omega.{arith}
-use Rattle.step_cases.proofs.cuts.run_cut.Statement.{statement}
-use Rattle.step_cases.proofs.cuts.run_cut.Tie as tie
+use Rattle.step_cases.proofs.masked.run_cut.Statement.{statement}
+use Rattle.step_cases.proofs.masked.run_cut.Tie as tie
 
 run-low-requires : tie.Need-run-low-requires
 run-low-requires c κs =

@@ -1,9 +1,9 @@
--- `cuts::run_cuts` is safe: what was tested holds, and 2^k is below the field's modulus.
+-- `masked::run_cuts` is safe: what was tested holds, and 2^k is below the field's modulus.
 -- Assumes nothing.
 use borrow.Author.Needs.{needs}
 use native.Mathlib.Omega.{arith}
-use Rattle.step_cases.proofs.cuts.run_cuts.Statement.{statement}
-use Rattle.step_cases.proofs.cuts.run_cuts.Tie as tie
+use Rattle.step_cases.proofs.masked.run_cuts.Statement.{statement}
+use Rattle.step_cases.proofs.masked.run_cuts.Tie as tie
 
 run-cut-requires : tie.Need-run-cut-requires
 run-cut-requires c κs =
