@@ -14,8 +14,8 @@ use Rattle.costs.specs.declared.cost.Cost.{Cost}
 use Rattle.costs.specs.declared.spent.Spent.{Spent}
 use Rattle.costs.specs.Costing.{countsOf, Costs, supplyIn}
 use Rattle.costs.proofs.Attempts.{Numbers, Tried, passed}
-use Rattle.machine.specs.Cells.{registerIn}
-use Rattle.machine.specs.Holding.{Lent, Ready}
+use Rattle.registers.specs.Cells.{registerIn}
+use Rattle.registers.specs.Holding.{Lent, Ready}
 
 -- A command may be tried on what is lent.
 pub record Trying (s : List ℕ) (f : Frame) (supply : Counts) (k : Spent) (c : Command) (m : Lent) : Type 0 where

@@ -14,7 +14,7 @@ use Rattle.model.specs.Run.{State, Stop, nothingSpent, start, finish, runLines}
 use Rattle.model.specs.Exactness.{Passes, begins, goes}
 use Rattle.model.proofs.Trying.{given-done, given-refused}
 use Rattle.model.proofs.StepLaws.{run-end, run-line}
-use Rattle.machine.specs.Holding.{Lent, Carries}
+use Rattle.registers.specs.Holding.{Lent, Carries}
 
 -- what a run is worked with: the lines of a script with END's offset, and what both buffers held before it
 pub record Course : Type 0 where

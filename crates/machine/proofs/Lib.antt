@@ -1,9 +1,5 @@
-pub mod Cells
-pub mod Keeping
+pub mod Commands
 pub mod Going
-pub mod Readiness
-pub mod Performing
-pub mod Signing
 pub mod Matching
 pub mod Whole
 pub mod Attempts

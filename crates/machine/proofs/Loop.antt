@@ -26,15 +26,15 @@ use Rattle.costs.specs.declared.counts.Counts.{Counts}
 use Rattle.costs.specs.declared.cost.Cost.{Cost}
 use Rattle.costs.specs.Costing.{countsOf, spentOf, Costs, Within, Supplied, Checkable, supplyIn}
 use Rattle.costs.proofs.Attempts.{Words, Numbers, nothing-within, costable, checkable, number-is, summing, paid-within}
-use Rattle.machine.specs.declared.table.Table.{Table}
-use Rattle.machine.specs.Holding.{lent, Carries, Counting, Ready, inputsOf, dealOf}
+use Rattle.registers.specs.declared.table.Table.{Table}
+use Rattle.registers.specs.Holding.{lent, Carries, Counting, Ready, inputsOf, dealOf}
 use Rattle.machine.specs.Answers.{Payable, Finishes, Running, Reaches}
 use Rattle.machine.proofs.Going.{Course, wholeRun, Going, going-start, at-end, at-refusal}
 use Rattle.machine.proofs.Going as Go
 use Rattle.machine.proofs.Attempts.{Trying, ready}
-use Rattle.machine.proofs.Readiness.{field-of, fitting}
+use Rattle.registers.proofs.Readiness.{field-of, fitting}
 use Rattle.machine.proofs.Whole.{stop-is, counting, shares-low, carries-start}
-use Rattle.machine.proofs.Keeping.{register-is}
+use Rattle.registers.proofs.Keeping.{register-is}
 
 -- the run of an accepted sheet, and its going on from the lines that are left
 abbrev course : (s : List ℕ) (f : Frame) → List ℕ → List ℕ → Accepted (f .opening .present) s → Course

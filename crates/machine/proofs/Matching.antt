@@ -27,13 +27,14 @@ use Rattle.steps.specs.Places.{Room}
 use Rattle.steps.specs.Promises.{StepLeaves}
 use Rattle.cuts.specs.Cuts.{CutRoom, CutLeaves}
 use Rattle.algebra.specs.Lists.{Below}
-use Rattle.machine.specs.Cells.{registerIn, Stored, Revealed}
-use Rattle.machine.specs.Places.{placesOf, Reached}
-use Rattle.machine.specs.declared.table.Table.{Table}
-use Rattle.machine.specs.Holding.{Lent, lent, Ready, Performs, CutReady, SignsReady, OnCells}
+use Rattle.registers.specs.Cells.{registerIn, Stored, Revealed}
+use Rattle.registers.specs.Places.{placesOf, Reached}
+use Rattle.registers.specs.declared.table.Table.{Table}
+use Rattle.registers.specs.Holding.{Lent, lent, Ready, Performs, CutReady, SignsReady, OnCells}
 use Rattle.machine.specs.Answers.{Payable, Finishes}
-use Rattle.machine.proofs.Readiness as Readiness
-use Rattle.machine.proofs.Performing.{multiply-performs, compare-performs, reveal-performs, cutCommand, cut-ready, cut-room, cut-performs}
+use Rattle.registers.proofs.Readiness as Readiness
+use Rattle.registers.proofs.Performing.{cutCommand, cut-room, cut-performs}
+use Rattle.machine.proofs.Commands.{multiply-performs, compare-performs, reveal-performs, cut-ready}
 
 -- where a ready command reads and writes next can be computed
 pub reached : {s : List ℕ} {f : Frame} {k : Counts} {c : Paper.Command} {m : Lent} → Ready s f k c m → length s < 2 ^ 64 → length (m .log) < 2 ^ 64 → Reached f k

@@ -32,7 +32,7 @@ use Rattle.sheet.proofs.Scripts.{scriptPart, script-bytes, script-read}
 use Rattle.script.specs.Meaning.{scriptNumber, scriptPlace}
 use Rattle.costs.specs.Costing.{supplyIn}
 use Rattle.machine.specs.declared.run.Answer.{Answer}
-use Rattle.machine.specs.Holding.{lent, Carries, Counting, inputsOf, dealOf}
+use Rattle.registers.specs.Holding.{lent, Carries, Counting, inputsOf, dealOf}
 use Rattle.machine.specs.Answers.{Unrefused, Running, RefusedWith, Reaches, outcomeOf}
 
 -- the cells of an unset register are below p

@@ -17,8 +17,8 @@ use Rattle.sheet.specs.Framed.{settingIn, Framed}
 use Rattle.costs.specs.declared.cost.Cost.{Cost}
 use Rattle.costs.specs.Costing.{countsOf, spentOf, Costs, Summing}
 use Rattle.machine.specs.declared.run.Answer.{Answer}
-use Rattle.machine.specs.declared.table.Table.{Table}
-use Rattle.machine.specs.Holding.{lent, Carries, Performs}
+use Rattle.registers.specs.declared.table.Table.{Table}
+use Rattle.registers.specs.Holding.{lent, Carries, Performs}
 
 -- the cost of a command that is to be paid by a table: it is the paper's, and the sums fit
 pub record Payable (f : Frame) (c : Command) (need : Cost) (t : Table) : Type 0 where

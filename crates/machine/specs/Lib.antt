@@ -1,4 +1,1 @@
-pub mod Cells
-pub mod Places
-pub mod Holding
 pub mod Answers

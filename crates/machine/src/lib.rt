@@ -1,7 +1,3 @@
-// The script machine: the table of registers, what each command does to it, and the run of a sheet.
-pub mod cutting;
-pub mod linear;
-pub mod opening;
+// The script machine: a command performed and paid, and the run of a sheet.
 pub mod run;
 pub mod step;
-pub mod table;

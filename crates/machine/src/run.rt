@@ -5,10 +5,11 @@ ghost use Rattle.model.specs.Run as Run;
 ghost use Rattle.sheet.specs.Framed.{settingIn};
 ghost use Rattle.sheet.specs.Reading.{numberOf};
 ghost use Rattle.machine.specs.Answers.{Unrefused, Running, Reaches, RefusedWith, outcomeOf};
-use crate::table::Table;
+use crate::step;
 use costs::check;
 use costs::cost;
 use costs::spent;
+use registers::table::Table;
 use script::command::Decoded;
 use script::decode;
 use sheet::frame::Frame;
@@ -49,7 +50,7 @@ fn run_script(f: Frame, s: &[u8], script: &[u8], log: &mut [u32], revealed: &mut
                 table,
             };
         }
-        table = table.step(f, s, log, revealed, c, need);
+        table = step::step(table, f, s, log, revealed, c, need);
         at = next;
     }
 }
