@@ -75,5 +75,6 @@ pub mod Foreseeing
 pub mod Forecasts
 pub mod OneColumn
 pub mod RecordedRows
+pub mod FromRecord
 pub mod Laws
 pub mod Cases
