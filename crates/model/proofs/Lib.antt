@@ -76,5 +76,6 @@ pub mod Forecasts
 pub mod OneColumn
 pub mod RecordedRows
 pub mod FromRecord
+pub mod ReplayLines
 pub mod Laws
 pub mod Cases
