@@ -77,5 +77,6 @@ pub mod OneColumn
 pub mod RecordedRows
 pub mod FromRecord
 pub mod ReplayLines
+pub mod PartColumns
 pub mod Laws
 pub mod Cases
