@@ -78,5 +78,6 @@ pub mod RecordedRows
 pub mod FromRecord
 pub mod ReplayLines
 pub mod PartColumns
+pub mod ReplayReady
 pub mod Laws
 pub mod Cases
