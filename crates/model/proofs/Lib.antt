@@ -79,5 +79,6 @@ pub mod FromRecord
 pub mod ReplayLines
 pub mod PartColumns
 pub mod ReplayReady
+pub mod ReplayRuns
 pub mod Laws
 pub mod Cases
