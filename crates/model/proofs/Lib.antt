@@ -73,5 +73,6 @@ pub mod ColumnForms
 pub mod Filled
 pub mod Foreseeing
 pub mod Forecasts
+pub mod RecordOpenings
 pub mod Laws
 pub mod Cases
