@@ -9,12 +9,12 @@ use Rattle.model.specs.Sharing.{Sharing}
 use Rattle.model.specs.Presence.{PermittedSet}
 use Rattle.model.specs.Deal.{Setting, Row, Deal}
 use Rattle.model.specs.Trees.{Tree}
-use Rattle.model.specs.Steps.{Worked, written, byRows, lessTriple, lessMask, plus, minus, times, constant}
+use Rattle.model.specs.Steps.{Worked, written, byRows, lessTriple, lessMask}
 use Rattle.model.specs.Sheet.{Header, settingWith, settingOf}
 use Rattle.model.specs.Replay.{Read, finished, byRecord}
 use Rattle.model.proofs.Pairs.{Paired, p-last, p-multiply, p-mask, p-reveal, Ends, ends, paired-beaver, paired-spelled}
 use Rattle.model.proofs.OneColumn.{Column, columnOf, columnOfTriple, columnOfDeal, others-map, column-keep, next-triple, next-mask}
-use Rattle.model.proofs.RecordedRows.{AllOpenings, from-recorded}
+use Rattle.model.proofs.RecordedRows.{from-recorded}
 
 -- A reading from the record finishes: with a result that R relates to that of the rows, column i of the deal that is left, and the record after what the
 -- rows wrote.
@@ -23,7 +23,7 @@ pub record Finishes (i : ℕ) {A B : Type 0} (R : A → B → Type 0) (w : Worke
   pub related : R (w .left) left
   pub is : r ≡ finished left (columnOfDeal i (w .deal)) rest
 
-module _ (all : AllOpenings) (h : Header) (present : ℕ) (field : InUse (h .field)) (people : Parties (h .n) (h .t))
+module _ (h : Header) (present : ℕ) (field : InUse (h .field)) (people : Parties (h .n) (h .t))
     (set : PermittedSet (h .n) (h .t) present) (i : ℕ) (l : i < h .n) where
   abbrev S : Setting
   S = settingWith present h
@@ -42,8 +42,8 @@ module _ (all : AllOpenings) (h : Header) (present : ℕ) (field : InUse (h .fie
           left = next .left;
           related = next .related;
           is = rw (append-assoc, append-assoc)
-              (from-recorded h present field people set oa _ all i l (K .minus ex (t .a)) _
-              ∙ from-recorded h present field people set ob _ all i l (K .minus ey (t .b)) _ ∙ rw (others-map (columnOfTriple i) (d .triples)) (next .is));
+              (from-recorded h present field people set oa _ i l (K .minus ex (t .a)) _
+              ∙ from-recorded h present field people set ob _ i l (K .minus ey (t .b)) _ ∙ rw (others-map (columnOfTriple i) (d .triples)) (next .is));
         }
     finishes (p-mask ex k) d (one o os) rest =
         let K = column-keep S i l in
@@ -53,12 +53,12 @@ module _ (all : AllOpenings) (h : Header) (present : ℕ) (field : InUse (h .fie
           left = next .left;
           related = next .related;
           is = rw append-assoc
-              (from-recorded h present field people set o _ all i l (K .plus ex (paired-spelled (S .p) K m)) _ ∙ rw (others-map (map (columnOf i)) (d .masks)) (next .is));
+              (from-recorded h present field people set o _ i l (K .plus ex (paired-spelled (S .p) K m)) _ ∙ rw (others-map (map (columnOf i)) (d .masks)) (next .is));
         }
     finishes (p-reveal ex k) d (one o os) rest =
         let next = finishes k d os rest in
         record {
           left = next .left;
           related = next .related;
-          is = rw append-assoc (from-recorded h present field people set o _ all i l ex _ ∙ next .is);
+          is = rw append-assoc (from-recorded h present field people set o _ i l ex _ ∙ next .is);
         }

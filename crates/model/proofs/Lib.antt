@@ -73,6 +73,7 @@ pub mod ColumnForms
 pub mod Filled
 pub mod Foreseeing
 pub mod Forecasts
+pub mod RecordOpenings
 pub mod OneColumn
 pub mod RecordedRows
 pub mod FromRecord

@@ -24,11 +24,8 @@ use Rattle.model.proofs.Sharings.{Seat, share-lt, secret-sharing}
 use Rattle.model.proofs.Sharings as Sharings
 use Rattle.model.proofs.Shared.{value-secret}
 use Rattle.model.proofs.Written.{length-recorded}
+use Rattle.model.proofs.RecordOpenings.{openings}
 use Rattle.model.proofs.OneColumn.{Column, own-share}
-
--- what the field `openings` of Replays says
-abbrev pub AllOpenings : Type 0
-AllOpenings = (f n t j own : ℕ) (log : List ℕ) → InUse f → Parties n t → 1 ≤ j → j ≤ n → Openings (modulus f) n t j own log
 
 -- The run of a sheet with the header h, in which these parties are present.
 module _ (h : Header) (present : ℕ) (field : InUse (h .field)) (people : Parties (h .n) (h .t)) (set : PermittedSet (h .n) (h .t) present) where
@@ -80,9 +77,9 @@ module _ (h : Header) (present : ℕ) (field : InUse (h .field)) (people : Parti
             sym (Sharings.value (fields (h .field) field .modulus-is) people s 0 z (record { least = a; most = b })) ∙ sym (present-at z a b e)
         takes z a b false e k = absurd (k (found-at z a b ∙ rw e refl))
 
-    module _ (all : AllOpenings) (i : ℕ) (l : i < h .n) where
+    module _ (i : ℕ) (l : i < h .n) where
       asks : (own : ℕ) → Openings p (h .n) (h .t) (suc i) own (recorded S x ++ rest)
-      asks own = all (h .field) (h .n) (h .t) (suc i) own (recorded S x ++ rest) field people (omega arith) l
+      asks own = openings (h .field) (h .n) (h .t) (suc i) own (recorded S x ++ rest) field people (omega arith) l
 
       -- an own share that is absent is not compared, and one that is present is the same
       not-refused : {y : Row} → Column i x y → openingNumber p (h .n) (h .t) (suc i) (ownShare y) (recorded S x ++ rest) ≡ 0

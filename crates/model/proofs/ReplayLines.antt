@@ -30,10 +30,9 @@ use Rattle.model.proofs.Lengths.{Fitting}
 use Rattle.model.proofs.Acceptance.{all-left, all-right}
 use Rattle.model.proofs.Buffers.{Other, Before, paid, same-unless}
 use Rattle.model.proofs.OneColumn.{Column, columnOf, columnOfDeal, column-command}
-use Rattle.model.proofs.RecordedRows.{AllOpenings}
 use Rattle.model.proofs.FromRecord.{Finishes, finishes}
 
-module _ (all : AllOpenings) (h : Header) (present : ℕ) (field : InUse (h .field)) (people : Parties (h .n) (h .t))
+module _ (h : Header) (present : ℕ) (field : InUse (h .field)) (people : Parties (h .n) (h .t))
     (set : PermittedSet (h .n) (h .t) present) (i : ℕ) (l : i < h .n) where
   abbrev S : Setting
   S = settingWith present h
@@ -69,7 +68,7 @@ module _ (all : AllOpenings) (h : Header) (present : ℕ) (field : InUse (h .fie
         rw (command-does S input j c g go d) (λ os o.
         let w = byRows S (rowCommand S input j c g done) d in
         let v = byRows S (go (w .left)) (w .deal) in
-        let F = finishes all h present field people set i l (column-command S i l input j c gs) d (all-left (w .opened) (v .opened) os) (written S (v .opened) ++ rest) in
+        let F = finishes h present field people set i l (column-command S i l input j c gs) d (all-left (w .opened) (v .opened) os) (written S (v .opened) ++ rest) in
         rw (written-append S (w .opened) (v .opened), append-assoc (written S (w .opened)) (written S (v .opened)) rest, F .is)
         (k (w .left) (F .left) (w .deal) (F .related) (all-right (w .opened) (v .opened) os) o))
 

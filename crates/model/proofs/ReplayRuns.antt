@@ -29,89 +29,87 @@ use Rattle.model.proofs.Secrecy.{own-stop}
 use Rattle.model.proofs.Forecasts.{same-header, same-script}
 use Rattle.model.proofs.OneColumn.{Column, columnOfDeal, no-column, own-shares}
 use Rattle.model.proofs.OneColumn as OneColumn
-use Rattle.model.proofs.RecordedRows.{AllOpenings}
 use Rattle.model.proofs.ReplayLines.{replays}
 use Rattle.model.proofs.ReplayReady.{part-is, none-refuses}
 
-module _ (all : AllOpenings) where
-  -- the run of an accepted sheet with any buffers, and party i + 1's replay
-  module _ {present : ℕ} {s : List ℕ} (A : Accepted present s) (log revealed : List ℕ) (i : ℕ) (l : i < headerOf s .n) where
-    abbrev h : Header
-    h = headerOf s
+-- the run of an accepted sheet with any buffers, and party i + 1's replay
+module _ {present : ℕ} {s : List ℕ} (A : Accepted present s) (log revealed : List ℕ) (i : ℕ) (l : i < headerOf s .n) where
+  abbrev h : Header
+  h = headerOf s
 
-    abbrev S : Setting
-    S = settingWith present h
+  abbrev S : Setting
+  S = settingWith present h
 
-    abbrev stop : Stop
-    stop = stopOf present s (length log) (length revealed)
+  abbrev stop : Stop
+  stop = stopOf present s (length log) (length revealed)
 
-    -- what its lines leave
-    abbrev w : Worked (Ended Row)
-    w = byRows S (rowLines S (supplyOf h (length log) (length revealed)) (inputIn h s) (A .end) (A .lines) nothingSpent (replicate 64 noRow)) (dealIn h s)
+  -- what its lines leave
+  abbrev w : Worked (Ended Row)
+  w = byRows S (rowLines S (supplyOf h (length log) (length revealed)) (inputIn h s) (A .end) (A .lines) nothingSpent (replicate 64 noRow)) (dealIn h s)
 
-    stop-is : stop ≡ runLines S (supplyOf h (length log) (length revealed)) (inputIn h s) (A .end) (A .lines) (start (dealIn h s))
-    stop-is = own-stop present s (A .lines) (A .end) (A .number) (A .script) (length log) (length revealed)
+  stop-is : stop ≡ runLines S (supplyOf h (length log) (length revealed)) (inputIn h s) (A .end) (A .lines) (start (dealIn h s))
+  stop-is = own-stop present s (A .lines) (A .end) (A .number) (A .script) (length log) (length revealed)
 
-    sharings : All (Sharing (S .p) (S .n) (S .t)) (w .opened)
-    unfolding runLines start
-    sharings = let X = exactness present s (length log) (length revealed) A in rw stop-is at (X .right _ _ _ _ (X .stops .passes) .opened)
+  sharings : All (Sharing (S .p) (S .n) (S .t)) (w .opened)
+  unfolding runLines start
+  sharings = let X = exactness present s (length log) (length revealed) A in rw stop-is at (X .right _ _ _ _ (X .stops .passes) .opened)
 
-    written-length : length (written S (w .opened)) ≡ h .n * w .left .spent .counts .openings
-    unfolding runLines start
-    written-length = let X = exactness present s (length log) (length revealed) A in rw stop-is at (X .counted _ _ _ _ (X .stops .passes) .numbers)
+  written-length : length (written S (w .opened)) ≡ h .n * w .left .spent .counts .openings
+  unfolding runLines start
+  written-length = let X = exactness present s (length log) (length revealed) A in rw stop-is at (X .counted _ _ _ _ (X .stops .passes) .numbers)
 
-    -- the lines, read from the record
-    abbrev read : List ℕ → Ended Row
-    read rest =
-        replayLines (settingOf h) (suc i) (ampleSupply h) (map (OneColumn.columnOf i) (inputIn h s)) (A .end) (A .lines) nothingSpent (replicate 64 noRow)
-        (columnOfDeal i (dealIn h s)) (written S (w .opened) ++ rest)
+  -- the lines, read from the record
+  abbrev read : List ℕ → Ended Row
+  read rest =
+      replayLines (settingOf h) (suc i) (ampleSupply h) (map (OneColumn.columnOf i) (inputIn h s)) (A .end) (A .lines) nothingSpent (replicate 64 noRow)
+      (columnOfDeal i (dealIn h s)) (written S (w .opened) ++ rest)
 
-    ends-alike : Other (w .left .number) → (rest : List ℕ) → PairedEnds (Column i) (w .left) (read rest)
-    ends-alike o rest =
-        let Q = sound present s (A .number) in
-        let F = fitting h (Q .permitted) in
-        replays all h present (Q .permitted .field) (Q .permitted .people) (Q .permitted-set) i l F (length log) (length revealed) (inputIn h s) (A .end) (A .lines)
-        nothingSpent (replicate 64 noRow) (replicate 64 noRow) (dealIn h s) (at-start _ _ (scriptIn h s) (A .script) (omega (arith, script-length h s)))
-        (each-replicate 64 noRow noRow (no-column i)) rest sharings o
+  ends-alike : Other (w .left .number) → (rest : List ℕ) → PairedEnds (Column i) (w .left) (read rest)
+  ends-alike o rest =
+      let Q = sound present s (A .number) in
+      let F = fitting h (Q .permitted) in
+      replays h present (Q .permitted .field) (Q .permitted .people) (Q .permitted-set) i l F (length log) (length revealed) (inputIn h s) (A .end) (A .lines)
+      nothingSpent (replicate 64 noRow) (replicate 64 noRow) (dealIn h s) (at-start _ _ (scriptIn h s) (A .script) (omega (arith, script-length h s)))
+      (each-replicate 64 noRow noRow (no-column i)) rest sharings o
 
-    replay-is : (rest : List ℕ) → replay (suc i) (headIn s) (partOf h (suc i) (columnForm s)) (written S (w .opened) ++ rest) ≡ replayedBy (read rest)
-    unfolding replay replayScript
-    replay-is rest = rw (none-refuses A i l, same-script s, same-header s, A .script, part-is A i l .0, part-is A i l .1) refl
+  replay-is : (rest : List ℕ) → replay (suc i) (headIn s) (partOf h (suc i) (columnForm s)) (written S (w .opened) ++ rest) ≡ replayedBy (read rest)
+  unfolding replay replayScript
+  replay-is rest = rw (none-refuses A i l, same-script s, same-header s, A .script, part-is A i l .0, part-is A i l .1) refl
 
-    column-is : {e e′ : Ended Row} → PairedEnds (Column i) e e′
-        → replayedBy e′ ≡ record { number = e .number; place = e .place; cells = map (λ (x : Row). getD x i 0) (e .registers); counts = e .spent .counts }
-    column-is P =
-        λ k. record {
-          number = sym (P .number) k;
-          place = sym (P .place) k;
-          cells = sym (own-shares i (P .registers)) k;
-          counts = sym (P .spent) k .counts;
-        }
+  column-is : {e e′ : Ended Row} → PairedEnds (Column i) e e′
+      → replayedBy e′ ≡ record { number = e .number; place = e .place; cells = map (λ (x : Row). getD x i 0) (e .registers); counts = e .spent .counts }
+  column-is P =
+      λ k. record {
+        number = sym (P .number) k;
+        place = sym (P .place) k;
+        cells = sym (own-shares i (P .registers)) k;
+        counts = sym (P .spent) k .counts;
+      }
 
-    -- from what the run wrote, and then whatever follows
-    replayed : Other (run present s log revealed .number) → (rest : List ℕ)
-        → replay (suc i) (headIn s) (partOf h (suc i) (columnForm s)) (written S (w .opened) ++ rest) ≡ columnOf (suc i) (run present s log revealed)
-    unfolding run outcome runLines start
-    replayed o rest =
-        rw stop-is (replay-is rest ∙ column-is (ends-alike (rw stop-is at o) rest))
+  -- from what the run wrote, and then whatever follows
+  replayed : Other (run present s log revealed .number) → (rest : List ℕ)
+      → replay (suc i) (headIn s) (partOf h (suc i) (columnForm s)) (written S (w .opened) ++ rest) ≡ columnOf (suc i) (run present s log revealed)
+  unfolding run outcome runLines start
+  replayed o rest =
+      rw stop-is (replay-is rest ∙ column-is (ends-alike (rw stop-is at o) rest))
 
-    log-is : run present s log revealed .log ≡ onto (written S (w .opened)) log
-    unfolding run outcome runLines start
-    log-is = rw stop-is refl
+  log-is : run present s log revealed .log ≡ onto (written S (w .opened)) log
+  unfolding run outcome runLines start
+  log-is = rw stop-is refl
 
-    record-is : recordOf s (run present s log revealed) ≡ written S (w .opened)
-    unfolding run outcome runLines start onto
-    record-is = rw stop-is (take-at (written S (w .opened)) _ _ written-length)
+  record-is : recordOf s (run present s log revealed) ≡ written S (w .opened)
+  unfolding run outcome runLines start onto
+  record-is = rw stop-is (take-at (written S (w .opened)) _ _ written-length)
 
-  pub as-run : (present : ℕ) (s log revealed : List ℕ) (j : ℕ) (more : List ℕ) → Accepted present s → 1 ≤ j → j ≤ headerOf s .n
-      → let o = run present s log revealed in
-      o .number ≢ 25 → o .number ≢ 26 → replay j (headIn s) (partOf (headerOf s) j (columnForm s)) (recordOf s o ++ more) ≡ columnOf j o
-  as-run present s log revealed zero more A a b e f = absurd (omega arith)
-  as-run present s log revealed (suc i) more A a b e f = rw (record-is A log revealed i b) (replayed A log revealed i b (e, f) more)
+pub as-run : (present : ℕ) (s log revealed : List ℕ) (j : ℕ) (more : List ℕ) → Accepted present s → 1 ≤ j → j ≤ headerOf s .n
+    → let o = run present s log revealed in
+    o .number ≢ 25 → o .number ≢ 26 → replay j (headIn s) (partOf (headerOf s) j (columnForm s)) (recordOf s o ++ more) ≡ columnOf j o
+as-run present s log revealed zero more A a b e f = absurd (omega arith)
+as-run present s log revealed (suc i) more A a b e f = rw (record-is A log revealed i b) (replayed A log revealed i b (e, f) more)
 
-  pub from-buffer : (present : ℕ) (s log revealed : List ℕ) (j : ℕ) → Accepted present s → 1 ≤ j → j ≤ headerOf s .n
-      → let o = run present s log revealed in
-      o .number ≢ 25 → o .number ≢ 26 → replay j (headIn s) (partOf (headerOf s) j (columnForm s)) (o .log) ≡ columnOf j o
-  unfolding onto
-  from-buffer present s log revealed zero A a b e f = absurd (omega arith)
-  from-buffer present s log revealed (suc i) A a b e f = rw (log-is A log revealed i b) (replayed A log revealed i b (e, f) _)
+pub from-buffer : (present : ℕ) (s log revealed : List ℕ) (j : ℕ) → Accepted present s → 1 ≤ j → j ≤ headerOf s .n
+    → let o = run present s log revealed in
+    o .number ≢ 25 → o .number ≢ 26 → replay j (headIn s) (partOf (headerOf s) j (columnForm s)) (o .log) ≡ columnOf j o
+unfolding onto
+from-buffer present s log revealed zero A a b e f = absurd (omega arith)
+from-buffer present s log revealed (suc i) A a b e f = rw (log-is A log revealed i b) (replayed A log revealed i b (e, f) _)
