@@ -1,10 +1,10 @@
 -- A party's part of the column form, read as the rows of a table of one column: they are the party's column of the sheet's input and deal.
 -- Assumes nothing.
 use mathlib.Core.Path.{_≡_, refl, sym, ap, ap₂, _∙_}
-use mathlib.Core.List.{List, [], _∷_, _++_, map, map-append, List·Memᴰ as In, List·Memᴰ·head as here, List·Memᴰ·tail as there}
+use mathlib.Core.List.{List, [], _∷_, _++_, map, map-append, List·Memᴰ·head as here, List·Memᴰ·tail as there}
 use Prim.Native.Nat.{ℕ, zero, suc, _+_, _*_, _<_}
 use native.Mathlib.Omega.{arith}
-use lib.ListN.{length, getD, length-map}
+use lib.ListN.{getD, length-map}
 use Rattle.algebra.specs.Rows.{tab, row}
 use Rattle.model.specs.Bytes.{number, rowAt}
 use Rattle.model.specs.Deal.{Row, Triple, Deal}
@@ -12,7 +12,7 @@ use Rattle.model.specs.Sheet.{Header, maskBits, rowCount, inputIn, dealI
 use Rattle.model.specs.Columns.{sharesIn, columnIn}
 use Rattle.model.specs.Replay.{partInput, partDeal}
 use Rattle.model.proofs.SheetDeal.{Masks, Shape, dealFrom, rows-from, shape-from, shape-in, same}
-use Rattle.model.proofs.OneColumn.{columnOf, columnOfTriple, columnOfDeal}
+use Rattle.model.proofs.OneColumn.{columnRow, columnTriple, columnDeal}
 
 -- a row of one share
 abbrev oneShare : ℕ → Row
@@ -48,40 +48,40 @@ module _ (h : Header) (part : List ℕ) where
 
 -- column i of rows, masks and triples
 module _ (i : ℕ) where
-  column-rows : (xs : List Row) → map (columnOf i) xs ≡ map oneShare (map (λ (x : Row). getD x i 0) xs)
-  unfolding columnOf
+  column-rows : (xs : List Row) → map (columnRow i) xs ≡ map oneShare (map (λ (x : Row). getD x i 0) xs)
+  unfolding columnRow
   column-rows [] = refl
-  column-rows (x ∷ xs) = ap (λ (l : List Row). columnOf i x ∷ l) (column-rows xs)
+  column-rows (x ∷ xs) = ap (λ (l : List Row). columnRow i x ∷ l) (column-rows xs)
 
-  mask-columns : (ms : List (List Row)) → maskRows (map (map (columnOf i)) ms) ≡ map (columnOf i) (maskRows ms)
+  mask-columns : (ms : List (List Row)) → maskRows (map (map (columnRow i)) ms) ≡ map (columnRow i) (maskRows ms)
   unfolding maskRows
   mask-columns [] = refl
   mask-columns (m ∷ ms) = rw (mask-columns ms, map-append)
 
-  triple-columns : (ts : List Triple) → tripleRows (map (columnOfTriple i) ts) ≡ map (columnOf i) (tripleRows ts)
+  triple-columns : (ts : List Triple) → tripleRows (map (columnTriple i) ts) ≡ map (columnRow i) (tripleRows ts)
   unfolding tripleRows
   triple-columns [] = refl
   triple-columns (t ∷ ts) = rw (triple-columns ts)
 
-  deal-columns : (input : List Row) (d : Deal) → map (columnOf i) input ++ dealRows (columnOfDeal i d) ≡ map (columnOf i) (input ++ dealRows d)
+  deal-columns : (input : List Row) (d : Deal) → map (columnRow i) input ++ dealRows (columnDeal i d) ≡ map (columnRow i) (input ++ dealRows d)
   deal-columns input d = rw (mask-columns (d .masks), triple-columns (d .triples), map-append, map-append)
 
-  masks-each : (l : ℕ) (ms : List (List Row)) → Masks l ms → Masks l (map (map (columnOf i)) ms)
-  masks-each l (m ∷ ms) k x (here e) = rw e (length-map m (columnOf i) ∙ k m (here refl))
+  masks-each : (l : ℕ) (ms : List (List Row)) → Masks l ms → Masks l (map (map (columnRow i)) ms)
+  masks-each l (m ∷ ms) k x (here e) = rw e (length-map m (columnRow i) ∙ k m (here refl))
   masks-each l (m ∷ ms) k x (there z) = masks-each l ms (λ y z. k y (there z)) x z
 
-  column-shape : {h : Header} {input : List Row} {d : Deal} → Shape h input d → Shape h (map (columnOf i) input) (columnOfDeal i d)
+  column-shape : {h : Header} {input : List Row} {d : Deal} → Shape h input d → Shape h (map (columnRow i) input) (columnDeal i d)
   column-shape {h} {input} {d} A =
       record {
-        inputs = length-map input (columnOf i) ∙ A .inputs;
-        masks = length-map (d .masks) (map (columnOf i)) ∙ A .masks;
-        triples = length-map (d .triples) (columnOfTriple i) ∙ A .triples;
+        inputs = length-map input (columnRow i) ∙ A .inputs;
+        masks = length-map (d .masks) (map (columnRow i)) ∙ A .masks;
+        triples = length-map (d .triples) (columnTriple i) ∙ A .triples;
         each = masks-each (maskBits h) (d .masks) (A .each);
       }
 
 -- where the part's numbers are party i + 1's column of the sheet s
 pub part-columns : (h : Header) (i : ℕ) (s part : List ℕ) → sharesIn h part ≡ columnIn h (suc i) s
-    → (partInput h part ≡ map (columnOf i) (inputIn h s)) × (partDeal h part ≡ columnOfDeal i (dealIn h s))
+    → (partInput h part ≡ map (columnRow i) (inputIn h s)) × (partDeal h part ≡ columnDeal i (dealIn h s))
 unfolding columnIn
 part-columns h i s part e =
     let xs = inputIn h s ++ dealRows (dealIn h s) in

@@ -1,18 +1,17 @@
 -- A sharing that was opened, found in the record: whoever was present, nothing refuses it, and its value is the one that the opening gave.
 -- Assumes nothing.
-use mathlib.Core.Path.{_≡_, refl, sym, ap, _∙_}
+use mathlib.Core.Path.{_≡_, refl, sym, _∙_}
 use mathlib.Core.Logic.{_≢_}
 use mathlib.Core.Bool.{Bool, true, false, cond}
 use mathlib.Core.List.{List, _++_}
 use Prim.Native.Nat.{ℕ, zero, suc, _≤_, _<_}
 use native.Mathlib.Omega.{arith}
-use lib.ListN.{length, getD, drop, length-append, List·getD-append}
+use lib.ListN.{length, length-append, List·getD-append}
 use lib.Seq.{drop-at}
 use Rattle.algebra.proofs.Rows.{row-at, getD-tab}
-use Rattle.model.specs.Fields.{modulus, InUse, Parties}
+use Rattle.model.specs.Fields.{modulus, InUse, Modulus, Parties}
 use Rattle.model.specs.Sharing.{Sharing, eval, at}
 use Rattle.model.specs.Presence.{isPresent, PermittedSet, openers}
-use Rattle.model.specs.Refusing.{given}
 use Rattle.model.specs.Deal.{Setting, Row}
 use Rattle.model.specs.Steps.{value, recorded}
 use Rattle.model.specs.Sheet.{Header, settingWith, settingOf}
@@ -20,7 +19,7 @@ use Rattle.model.specs.Replay.{Read, ownShare, opening, openedValue, ope
 use Rattle.model.specs.Replays.{OnOne, Openings}
 use Rattle.model.proofs.Fields.{fields}
 use Rattle.model.proofs.Presence.{presence, openers-group}
-use Rattle.model.proofs.Sharings.{Seat, share-lt, secret-sharing}
+use Rattle.model.proofs.Sharings.{share-lt, secret-sharing}
 use Rattle.model.proofs.Sharings as Sharings
 use Rattle.model.proofs.Shared.{value-secret}
 use Rattle.model.proofs.Written.{length-recorded}
@@ -35,6 +34,9 @@ module _ (h : Header) (present : ℕ) (field : InUse (h .field)) (people : Parti
   abbrev p : ℕ
   p = modulus (h .field)
 
+  abbrev M : Modulus p
+  M = fields (h .field) field .modulus-is
+
   -- an opened sharing x, and what follows it in the record
   module _ {x : Row} (s : Sharing p (h .n) (h .t) x) (rest : List ℕ) where
     abbrev found : Row
@@ -48,14 +50,14 @@ module _ (h : Header) (present : ℕ) (field : InUse (h .field)) (people : Parti
         row-at (h .n) _ k b ∙ List·getD-append (recorded S x) rest 0 k (rw (length-recorded S x) b) ∙ getD-tab (h .n) _ k b
 
     below : (z : ℕ) → 1 ≤ z → z ≤ h .n → at 0 x z < p
-    below z a b = share-lt (fields (h .field) field .modulus-is) people s z (record { least = a; most = b })
+    below z a b = share-lt M people s z (record { least = a; most = b })
 
     present-at : (z : ℕ) → 1 ≤ z → z ≤ h .n → isPresent present z ≡ true → at 0 found z ≡ at 0 x z
     present-at z a b e = found-at z a b ∙ rw e refl
 
+    -- the shares that are present are on the sharing's own polynomial, and those that the opening was worked from are present
     on-one : OnOne p (h .n) (h .t) found
     on-one =
-        let M = fields (h .field) field .modulus-is in
         let L = presence .opened-from (h .n) (h .t) present set in
         record {
           most = λ z a b. rw (found-at z a b) (most z (isPresent present z) (below z a b));
@@ -74,9 +76,10 @@ module _ (h : Header) (present : ℕ) (field : InUse (h .field)) (people : Parti
 
         takes : (z : ℕ) → 1 ≤ z → z ≤ h .n → (c : Bool) → isPresent present z ≡ c → at 0 found z ≢ p → eval p (s .poly) z ≡ at 0 found z
         takes z a b true e k =
-            sym (Sharings.value (fields (h .field) field .modulus-is) people s 0 z (record { least = a; most = b })) ∙ sym (present-at z a b e)
+            sym (Sharings.value M people s 0 z (record { least = a; most = b })) ∙ sym (present-at z a b e)
         takes z a b false e k = absurd (k (found-at z a b ∙ rw e refl))
 
+    -- party i + 1, which has column i of it
     module _ (i : ℕ) (l : i < h .n) where
       asks : (own : ℕ) → Openings p (h .n) (h .t) (suc i) own (recorded S x ++ rest)
       asks own = openings (h .field) (h .n) (h .t) (suc i) own (recorded S x ++ rest) field people (omega arith) l
@@ -95,7 +98,6 @@ module _ (h : Header) (present : ℕ) (field : InUse (h .field)) (people : Parti
       same-value : openedValue p (h .n) (h .t) found ≡ value S x
       unfolding on-one
       same-value =
-          let M = fields (h .field) field .modulus-is in
           asks 0 .value-is on-one ∙ sym (secret-sharing M people s) ∙ sym (value-secret S M people s)
 
       -- an opening of the column is read as the run opened the row

@@ -3,7 +3,7 @@
 -- Assumes nothing.
 use mathlib.Core.Path.{_≡_, refl}
 use mathlib.Core.List.{List, [], _∷_, _++_, append-assoc, map}
-use Prim.Native.Nat.{ℕ, zero, suc, _≤_, _<_}
+use Prim.Native.Nat.{ℕ, zero, suc, _<_}
 use native.Mathlib.Omega.{arith}
 use lib.ListN.{length}
 use Rattle.algebra.specs.Lists.{All}
@@ -29,8 +29,8 @@ use Rattle.model.proofs.Written.{written-append}
 use Rattle.model.proofs.Lengths.{Fitting}
 use Rattle.model.proofs.Acceptance.{all-left, all-right}
 use Rattle.model.proofs.Buffers.{Other, Before, paid, same-unless}
-use Rattle.model.proofs.OneColumn.{Column, columnOf, columnOfDeal, column-command}
-use Rattle.model.proofs.FromRecord.{Finishes, finishes}
+use Rattle.model.proofs.OneColumn.{Column, columnRow, columnDeal, column-command}
+use Rattle.model.proofs.FromRecord.{finishes}
 
 module _ (h : Header) (present : ℕ) (field : InUse (h .field)) (people : Parties (h .n) (h .t))
     (set : PermittedSet (h .n) (h .t) present) (i : ℕ) (l : i < h .n) where
@@ -46,7 +46,7 @@ module _ (h : Header) (present : ℕ) (field : InUse (h .field)) (people : Parti
   Alike T read d rest =
       let w = byRows S T d in
       All (Sharing (S .p) (S .n) (S .t)) (w .opened) → Other (w .left .number)
-      → PairedEnds (Column i) (w .left) (read (columnOfDeal i d) (written S (w .opened) ++ rest))
+      → PairedEnds (Column i) (w .left) (read (columnDeal i d) (written S (w .opened) ++ rest))
 
   -- by the number of the check: both go on, or both stop here
   either : (n m place : ℕ) (s : Spent) {g g′ : List Row} (d : Deal) (T : Tree Row (Ended Row)) (read : Deal → List ℕ → Ended Row) (rest : List ℕ)
@@ -63,7 +63,7 @@ module _ (h : Header) (present : ℕ) (field : InUse (h .field)) (people : Parti
         (read : List Row → Deal → List ℕ → Ended Row) → Each (Column i) g g′
         → ((w w′ : List Row) (d : Deal) → Each (Column i) w w′ → Alike (go w) (read w′) d rest)
         → Alike (rowCommand S input j c g go)
-        (λ d log. onward E (suc i) (λ number. refusal number d log) read (byRecord E (suc i) (rowCommand (oneColumn E) (map (columnOf i) input) j c g′ done) d log)) d rest
+        (λ d log. onward E (suc i) (λ number. refusal number d log) read (byRecord E (suc i) (rowCommand (oneColumn E) (map (columnRow i) input) j c g′ done) d log)) d rest
     goes-on refusal {g} {g′} d rest go read gs k =
         rw (command-does S input j c g go d) (λ os o.
         let w = byRows S (rowCommand S input j c g done) d in
@@ -78,7 +78,7 @@ module _ (h : Header) (present : ℕ) (field : InUse (h .field)) (people : Parti
 
     -- the lines, read from the record
     abbrev read : List Line → Spent → List Row → Deal → List ℕ → Ended Row
-    read = replayLines E (suc i) (ampleSupply h) (map (columnOf i) input) end
+    read = replayLines E (suc i) (ampleSupply h) (map (columnRow i) input) end
 
     pub replays : (xs : List Line) (s : Spent) (g g′ : List Row) (d : Deal) → Before s (length xs) → Each (Column i) g g′ → (rest : List ℕ)
         → Alike (rowLines S u input end xs s g) (read xs s g′) d rest

@@ -1,21 +1,19 @@
 -- Before the replay of an accepted sheet: a party's part of the column form has the party's column, and none of 1 to 5 refuses.
 -- Assumes nothing.
-use mathlib.Core.Path.{_≡_, refl, sym, ap, _∙_}
-use mathlib.Core.Bool.{Bool, _&&_}
-use mathlib.Core.List.{List, [], _∷_, _++_, map}
+use mathlib.Core.Path.{_≡_, refl, _∙_}
+use mathlib.Core.List.{List, [], map}
 use Prim.Native.Nat.{ℕ, suc, _≤_, _<_}
 use native.Mathlib.Omega.{arith}
-use lib.Dec.{T, ltb, leb, eqb, lt→ltb, le→leb, eqb-refl}
+use lib.Dec.{T, ltb, leb, lt→ltb, le→leb, eqb-refl}
 use lib.ListN.{length, getD}
-use borrow.Author.Tests.{eq-eqb}
 use Rattle.algebra.specs.Lists.{All, none, one, allBelow}
 use Rattle.algebra.proofs.Tests.{and-both}
-use Rattle.model.specs.Fields.{Modulus, Parties, modulus}
+use Rattle.model.specs.Fields.{Modulus, Parties}
 use Rattle.model.specs.Sharing.{Sharing}
 use Rattle.model.specs.Presence.{everyone}
 use Rattle.model.specs.Refusing.{firstFailed}
 use Rattle.model.specs.Deal.{Row}
-use Rattle.model.specs.Sheet.{Header, headerOf, inputsAt, rowCount, inputIn, dealIn, limits, headerTests, limitTests, sheetNumber}
+use Rattle.model.specs.Sheet.{Header, headerOf, inputsAt, inputIn, dealIn, headerTests, limitTests, sheetNumber}
 use Rattle.model.specs.Exactness.{Accepted}
 use Rattle.model.specs.Columns.{columnForm, partLength, partOf, sharesIn, columnIn}
 use Rattle.model.specs.ColumnForms.{Shaped, InParts}
@@ -30,7 +28,7 @@ use Rattle.model.proofs.Acceptance.{sound}
 use Rattle.model.proofs.PresentRuns.{present-runs}
 use Rattle.model.proofs.ColumnForms.{every-form}
 use Rattle.model.proofs.Forecasts.{same-header, whole-head}
-use Rattle.model.proofs.OneColumn.{columnOf, columnOfDeal}
+use Rattle.model.proofs.OneColumn.{columnRow, columnDeal}
 use Rattle.model.proofs.PartColumns.{part-columns}
 
 -- a column of sharings is below p
@@ -58,7 +56,7 @@ module _ {present : ℕ} {s : List ℕ} (A : Accepted present s) (i : ℕ) (l : 
   part-column : sharesIn h part ≡ columnIn h (suc i) s
   part-column = in-parts .column (suc i) (omega arith) l
 
-  pub part-is : (partInput h part ≡ map (columnOf i) (inputIn h s)) × (partDeal h part ≡ columnOfDeal i (dealIn h s))
+  pub part-is : (partInput h part ≡ map (columnRow i) (inputIn h s)) × (partDeal h part ≡ columnDeal i (dealIn h s))
   part-is = part-columns h i s part part-column
 
   long : inputsAt h ≤ length s

@@ -1,11 +1,11 @@
 -- Replay against the run of an accepted sheet: from the record that the run wrote, whatever follows it, a party's replay is the party's column of the outcome.
 -- Assumes nothing.
-use mathlib.Core.Path.{_≡_, refl, sym, ap, _∙_}
+use mathlib.Core.Path.{_≡_, refl, sym, _∙_}
 use mathlib.Core.Logic.{_≢_}
-use mathlib.Core.List.{List, [], _∷_, _++_, map}
+use mathlib.Core.List.{List, _++_, map}
 use Prim.Native.Nat.{ℕ, zero, suc, _*_, _≤_, _<_}
 use native.Mathlib.Omega.{arith}
-use lib.ListN.{length, getD, take, drop, replicate}
+use lib.ListN.{length, getD, replicate}
 use lib.Seq.{take-at}
 use Rattle.algebra.specs.Lists.{All, onto}
 use Rattle.model.specs.Sharing.{Sharing}
@@ -17,9 +17,9 @@ use Rattle.model.specs.Run.{Stop, rowLines, runLines, nothingSpent, star
 use Rattle.model.specs.Exactness.{Accepted}
 use Rattle.model.specs.Columns.{columnForm, partOf}
 use Rattle.model.specs.Forecast.{headIn, ampleSupply}
-use Rattle.model.specs.Replay.{ownShare, replayLines, Replayed, replayedBy, replayScript, replay}
+use Rattle.model.specs.Replay.{replayLines, replayedBy, replayScript, replay}
 use Rattle.model.specs.Replays.{columnOf, recordOf}
-use Rattle.model.proofs.Each.{Each, each-replicate}
+use Rattle.model.proofs.Each.{each-replicate}
 use Rattle.model.proofs.Pairs.{PairedEnds}
 use Rattle.model.proofs.Lengths.{fitting}
 use Rattle.model.proofs.Acceptance.{sound}
@@ -27,8 +27,7 @@ use Rattle.model.proofs.Exactness.{exactness}
 use Rattle.model.proofs.Buffers.{Other, at-start, script-length}
 use Rattle.model.proofs.Secrecy.{own-stop}
 use Rattle.model.proofs.Forecasts.{same-header, same-script}
-use Rattle.model.proofs.OneColumn.{Column, columnOfDeal, no-column, own-shares}
-use Rattle.model.proofs.OneColumn as OneColumn
+use Rattle.model.proofs.OneColumn.{Column, columnRow, columnDeal, no-column, own-shares}
 use Rattle.model.proofs.ReplayLines.{replays}
 use Rattle.model.proofs.ReplayReady.{part-is, none-refuses}
 
@@ -50,6 +49,7 @@ module _ {present : ℕ} {s : List ℕ} (A : Accepted present s) (log revealed :
   stop-is : stop ≡ runLines S (supplyOf h (length log) (length revealed)) (inputIn h s) (A .end) (A .lines) (start (dealIn h s))
   stop-is = own-stop present s (A .lines) (A .end) (A .number) (A .script) (length log) (length revealed)
 
+  -- the rows that they open are sharings, and are written with n numbers each
   sharings : All (Sharing (S .p) (S .n) (S .t)) (w .opened)
   unfolding runLines start
   sharings = let X = exactness present s (length log) (length revealed) A in rw stop-is at (X .right _ _ _ _ (X .stops .passes) .opened)
@@ -61,8 +61,8 @@ module _ {present : ℕ} {s : List ℕ} (A : Accepted present s) (log revealed :
   -- the lines, read from the record
   abbrev read : List ℕ → Ended Row
   read rest =
-      replayLines (settingOf h) (suc i) (ampleSupply h) (map (OneColumn.columnOf i) (inputIn h s)) (A .end) (A .lines) nothingSpent (replicate 64 noRow)
-      (columnOfDeal i (dealIn h s)) (written S (w .opened) ++ rest)
+      replayLines (settingOf h) (suc i) (ampleSupply h) (map (columnRow i) (inputIn h s)) (A .end) (A .lines) nothingSpent (replicate 64 noRow)
+      (columnDeal i (dealIn h s)) (written S (w .opened) ++ rest)
 
   ends-alike : Other (w .left .number) → (rest : List ℕ) → PairedEnds (Column i) (w .left) (read rest)
   ends-alike o rest =
@@ -101,6 +101,7 @@ module _ {present : ℕ} {s : List ℕ} (A : Accepted present s) (log revealed :
   unfolding run outcome runLines start onto
   record-is = rw stop-is (take-at (written S (w .opened)) _ _ written-length)
 
+-- the two statements of specs/Replays: from what the run wrote and then whatever follows, and from the whole lent buffer
 pub as-run : (present : ℕ) (s log revealed : List ℕ) (j : ℕ) (more : List ℕ) → Accepted present s → 1 ≤ j → j ≤ headerOf s .n
     → let o = run present s log revealed in
     o .number ≢ 25 → o .number ≢ 26 → replay j (headIn s) (partOf (headerOf s) j (columnForm s)) (recordOf s o ++ more) ≡ columnOf j o
