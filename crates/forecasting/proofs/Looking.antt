@@ -38,7 +38,7 @@ use Rattle.forecasting.specs.Forecasting.{foreseenOf, Foresees}
 
 -- lines gone over from what was spent on
 abbrev goneOver : Frame → Checks.Supply → ℕ → List Line → Checks.Spent → Paper.Foreseen
-goneOver f u end xs s = throughLines (λ e. e) (λ j c g go. go g) (modTriples (f .l)) u end xs s []
+goneOver f u end xs s = throughLines (λ e. e) (λ refusal j c g go. go g) (modTriples (f .l)) u end xs s []
 
 -- before what stands at a place, with so much spent
 pub record Looking (f : Frame) (script : List ℕ) (supply : Counts) (k : Spent) (at : ℕ) : Type 0 where

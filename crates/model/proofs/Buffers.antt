@@ -32,7 +32,7 @@ use Rattle.model.proofs.Refusals.{either, numbers, nothing-run}
 use Rattle.model.specs.Buffers.{recordLength, revealedLength, NoRunOutgrows, AllHeld}
 
 -- a number that is neither of the two
-abbrev Other : ℕ → Type 0
+abbrev pub Other : ℕ → Type 0
 Other number = (number ≢ 25) × (number ≢ 26)
 
 -- Every line takes at least two bytes and END takes one, so a script of 1,024 bytes has at most 511 lines.
@@ -89,10 +89,19 @@ after S c {s} {left} k t = record { balance = balanced-more S c s (k .limited .b
     go (hides e) = omega (arith, k .limited .lines)
     go (shows a q e) = omega (arith, k .set a (sym (and-true _) ∙ rw q at t))
 
--- two tests that are one, and what comes after it where it passes
-same-else : (b : Bool) (x y z : ℕ) → (b ≡ true → x ≡ y) → cond b x z ≡ cond b y z
-same-else true x y z k = k refl
-same-else false x y z k = refl
+-- so after a command that the checks let through, whatever there is
+pub paid : (u : Supply) (S : Setting) (c : Command) {s : Spent} {left : ℕ} → Before s (suc left) → check u (cost S c) s ≡ 0 → Before (pay (cost S c) s) left
+paid u S c {s} k e = before-next (after S c k (is-true _ (check-passed u (cost S c) s e .reads)))
+
+-- two tests that are one, and what comes after it where it passes; where neither 25 nor 26 refuses
+same-else : (b : Bool) (x y z : ℕ) → (b ≡ true → Other x → x ≡ y) → Other (cond b x z) → cond b x z ≡ cond b y z
+same-else true x y z k o = k refl o
+same-else false x y z k o = refl
+
+both-passed : (a b : Bool) {number : ℕ} → number ≡ cond a (cond b 0 26) 25 → Other number → number ≡ 0
+both-passed true true e o = e
+both-passed true false e o = absurd (o .1 e)
+both-passed false b e o = absurd (o .0 e)
 
 -- the run of an accepted sheet, by its header
 module _ (h : Header) (fits : Fitting h) (people : h .n ≤ 7) where
@@ -102,6 +111,21 @@ module _ (h : Header) (fits : Fitting h) (people : h .n ≤ 7) where
   room log shown log-long shown-long {s} a m t =
       let q : s .counts .openings * h .n ≤ (1024 + 16 + 510) * 7 = mul-le-mul {n₂ = 1024 + 16 + 510} {m₂ = 7} (omega arith) people in
       (le-leb (s .counts .openings * h .n) log (omega arith), le-leb (s .counts .revealed) shown (omega arith))
+
+  -- Where neither 25 nor 26 refuses, the checks give the same with the buffers of program table.
+  pub same-unless : (log shown : ℕ) (S : Setting) (c : Command) {s : Spent} {left : ℕ} → Before s (suc left) → Other (check (supplyOf h log shown) (cost S c) s)
+      → check (supplyOf h log shown) (cost S c) s ≡ check (supplyOf h recordLength revealedLength) (cost S c) s
+  unfolding check firstFailed pay
+  same-unless log shown S c {s} k =
+      let c₁ = cost S c in
+      same-else (allSet (s .marks) (c₁ .reads)) _ _ 21
+      (λ r. same-else (leb (s .counts .inputs + c₁ .counts .inputs) (h .inputs)) _ _ 22
+      (λ _. same-else (leb (s .counts .masks + c₁ .counts .masks) (h .masks)) _ _ 23
+      (λ m. same-else (leb (s .counts .triples + c₁ .counts .triples) (h .triples)) _ _ 24
+      (λ t o.
+      let q = room recordLength revealedLength (omega arith) (omega arith) (after S c k r) (leb-true _ _ m) (leb-true _ _ t) in
+      rw (q .0, q .1)
+      (both-passed (leb ((s .counts .openings + c₁ .counts .openings) * h .n) log) (leb (s .counts .revealed + c₁ .counts .revealed) shown) refl o)))))
 
   module _ (log shown : ℕ) (log-long : recordLength ≤ log) (shown-long : revealedLength ≤ shown) where
     abbrev u : Supply
@@ -119,27 +143,16 @@ module _ (h : Header) (fits : Fitting h) (people : h .n ≤ 7) where
         (λ t. let q = room log shown log-long shown-long (after S c k r) (leb-true _ _ m) (leb-true _ _ t) in rw (q .0, q .1) (omega arith))
         (λ _. omega arith)) (λ _. omega arith)) (λ _. omega arith)) (λ _. omega arith)
 
-    -- so the checks do not ask how long the buffers are: with those of program table they give the same
+    -- so the checks do not ask how long the buffers are
     pub same-check : (S : Setting) (c : Command) {s : Spent} {left : ℕ} → Before s (suc left)
         → check u (cost S c) s ≡ check (supplyOf h recordLength revealedLength) (cost S c) s
-    unfolding check firstFailed pay
-    same-check S c {s} k =
-        let c₁ = cost S c in
-        same-else (allSet (s .marks) (c₁ .reads)) _ _ 21
-        (λ r. same-else (leb (s .counts .inputs + c₁ .counts .inputs) (h .inputs)) _ _ 22
-        (λ _. same-else (leb (s .counts .masks + c₁ .counts .masks) (h .masks)) _ _ 23
-        (λ m. same-else (leb (s .counts .triples + c₁ .counts .triples) (h .triples)) _ _ 24
-        (λ t.
-        let l = after S c k r in
-        let q = room log shown log-long shown-long l (leb-true _ _ m) (leb-true _ _ t) in
-        let q′ = room recordLength revealedLength (omega arith) (omega arith) l (leb-true _ _ m) (leb-true _ _ t) in
-        rw (q .0, q .1, q′ .0, q′ .1) refl))))
+    same-check S c k = same-unless log shown S c k (checked S c k)
 
     module _ (S : Setting) (input : List Row) (end : ℕ) where
       pub finished : (c : Command) (s : State) {left : ℕ} → Before (s .spent) (suc left) → check u (cost S c) (s .spent) ≡ 0
           → Before (finish S input c s .spent) left
       unfolding finish
-      finished c s k e = before-next (after S c k (is-true _ (check-passed u (cost S c) (s .spent) e .reads)))
+      finished c s k e = paid u S c k e
 
       lines : (xs : List Line) (s : State) → Before (s .spent) (length xs) → Other (runLines S u input end xs s .number)
       lines [] s k = rw (run-end S u input end s) (omega arith)

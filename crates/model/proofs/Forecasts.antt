@@ -63,11 +63,11 @@ module _ (s : List ℕ) where
   abbrev h : Header
   h = headerOf s
 
-  same-header : headerOf (headIn s) ≡ h
+  pub same-header : headerOf (headIn s) ≡ h
   unfolding headIn
   same-header = sym (head-header s (headIn s) (sym (take-take (inputsAt h) (inputsAt h) s (omega arith))))
 
-  same-script : sheetScript (headIn s) ≡ sheetScript s
+  pub same-script : sheetScript (headIn s) ≡ sheetScript s
   unfolding headIn scriptIn
   same-script =
       rw same-header
@@ -75,7 +75,7 @@ module _ (s : List ℕ) where
       (ap (take (h .script)) (drop-take (headerSize h) (h .script) s) ∙ take-take (h .script) (h .script) _ (omega arith)))
 
   -- as many bytes as header and script have, or the sheet itself where it has fewer
-  whole-head : inputsAt h ≤ length s → length (headIn s) ≡ inputsAt h
+  pub whole-head : inputsAt h ≤ length s → length (headIn s) ≡ inputsAt h
   unfolding headIn
   whole-head = length-take-le (inputsAt h) s
 

@@ -33,7 +33,7 @@ module _ (h : Header) (fits : Fitting h) (people : h .n ≤ 7) (log shown : ℕ)
     (present : ℕ) (input : List Row) (end : ℕ) where
   -- the lines from what was spent on
   abbrev goneOver : List Line → Spent → Foreseen
-  goneOver xs s = throughLines (λ e. e) (λ j c g go. go g) (modTriples (maskBits h)) (ampleSupply h) end xs s []
+  goneOver xs s = throughLines (λ e. e) (λ refusal j c g go. go g) (modTriples (maskBits h)) (ampleSupply h) end xs s []
 
   pub follows : (xs : List Line) (s : State) → Before (s .spent) (length xs)
       → Follows (runLines (settingWith present h) (supplyOf h log shown) input end xs s) (goneOver xs (s .spent))

@@ -73,5 +73,13 @@ pub mod ColumnForms
 pub mod Filled
 pub mod Foreseeing
 pub mod Forecasts
+pub mod RecordOpenings
+pub mod OneColumn
+pub mod RecordedRows
+pub mod FromRecord
+pub mod ReplayLines
+pub mod PartColumns
+pub mod ReplayReady
+pub mod ReplayRuns
 pub mod Laws
 pub mod Cases

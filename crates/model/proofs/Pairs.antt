@@ -183,7 +183,7 @@ module _ (p : ℕ) {X Y : Type 0} {E : X → Y → Type 0} {O : Ops X} {O′ : O
     paired-command f f′ H is triples j (LTZS d a n k) gs h = paired-signs f f′ H _ _ k d a n gs h
 
     -- lines, from registers that are all in pairs
-    each-wrote : {ds : List ℕ} {g w : List X} {g′ w′ : List Y} → Each E g g′ → Wrote E g g′ ds w w′ → Each E w w′
+    pub each-wrote : {ds : List ℕ} {g w : List X} {g′ w′ : List Y} → Each E g g′ → Wrote E g g′ ds w w′ → Each E w w′
     each-wrote gs kept = gs
     each-wrote gs (puts {d = d} e W) = each-wrote (each-set d gs e) W
 

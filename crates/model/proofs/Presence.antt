@@ -64,7 +64,7 @@ all-bits (suc n) (suc i) h =
     rw half (all-bits n i (omega arith))
 
 -- every number is above those before it
-abbrev Rising : List ℕ → Type 0
+abbrev pub Rising : List ℕ → Type 0
 Rising [] = Unit {0}
 Rising (x ∷ xs) = ((z : ℕ) → In z xs → x < z) × Rising xs
 
@@ -130,16 +130,16 @@ module _ (b : ℕ) where
       (λ j js xs ys e h k. absurd (true-false (sym (k j (here refl)) ∙ e)))
 
 -- Rising lists, and the front of one.
-rising-from : (k m : ℕ) → Rising (from k m)
+pub rising-from : (k m : ℕ) → Rising (from k m)
 unfolding from
 rising-from k zero = tt
 rising-from k (suc m) = (λ z i. omega (arith, in-from (suc k) m i), rising-from (suc k) m)
 
-rising-distinct : (xs : List ℕ) → Rising xs → Distinct xs
+pub rising-distinct : (xs : List ℕ) → Rising xs → Distinct xs
 rising-distinct [] r = tt
 rising-distinct (x ∷ xs) r = (λ z m e. omega (arith, r .0 z m), rising-distinct xs (r .1))
 
-in-take : (k : ℕ) (xs : List ℕ) {z : ℕ} → In z (take k xs) → In z xs
+pub in-take : (k : ℕ) (xs : List ℕ) {z : ℕ} → In z (take k xs) → In z xs
 in-take (suc k) (x ∷ xs) (here e) = here e
 in-take (suc k) (x ∷ xs) (there m) = there (in-take k xs m)
 
@@ -148,7 +148,7 @@ front-lower (suc k) (y ∷ ys) r z (here e) n x i = absurd (n (here e))
 front-lower (suc k) (y ∷ ys) r z (there m) n x (here e) = rw e (r .0 z m)
 front-lower (suc k) (y ∷ ys) r z (there m) n x (there i) = front-lower k ys (r .1) z m (λ l. n (there l)) x i
 
-distinct-take : (k : ℕ) (xs : List ℕ) → Distinct xs → Distinct (take k xs)
+pub distinct-take : (k : ℕ) (xs : List ℕ) → Distinct xs → Distinct (take k xs)
 distinct-take zero xs d = tt
 distinct-take (suc k) [] d = tt
 distinct-take (suc k) (x ∷ xs) d = (λ z m. d .0 z (in-take k xs m), distinct-take k xs (d .1))

@@ -95,14 +95,27 @@ module _ (s : List ℕ) (n : ℕ) where
       let two : i + 4 * n * 2 ≡ i + 4 * n + 4 * n = omega arith in
       rw (triple-rows (i + 4 * n * 3) c, e, rows-add i 3 (3 * c), two)
 
--- the length that a header implies, by its rows; and all rows, in the sheet's order
+-- the length that a header implies, by its rows
 pub implied : (h : Header) → impliedLength h ≡ inputsAt h + 4 * h .n * rowCount h
 unfolding impliedLength
 implied h = omega arith
 
+-- input and deal that stand from place i on, in rows of n shares, and all their rows
+module _ (h : Header) (s : List ℕ) (n i : ℕ) where
+  abbrev pub dealFrom : Deal
+  dealFrom =
+      record {
+        masks = masksFrom s n (maskBits h) (i + 4 * n * h .inputs) (h .masks);
+        triples = triplesFrom s n (i + 4 * n * h .inputs + 4 * n * maskBits h * h .masks) (h .triples);
+      }
+
+  pub rows-from : rowsAt s n i (h .inputs) ++ dealRows dealFrom ≡ rowsAt s n i (rowCount h)
+  rows-from = rw (mask-rows, triple-rows, mul-assoc (4 * n) (maskBits h) (h .masks), ← rows-add, ← rows-add)
+
+-- of a sheet: all rows, in the sheet's order
 pub all-rows : (h : Header) (s : List ℕ) → inputIn h s ++ dealRows (dealIn h s) ≡ rowsAt s (h .n) (inputsAt h) (rowCount h)
 unfolding inputIn dealIn
-all-rows h s = rw (mask-rows, triple-rows, mul-assoc (4 * h .n) (maskBits h) (h .masks), ← rows-add, ← rows-add)
+all-rows h s = rows-from h s (h .n) (inputsAt h)
 
 -- input and deal as long as a header says
 pub record Shape (h : Header) (input : List Row) (d : Deal) : Type 0 where
@@ -111,14 +124,13 @@ pub record Shape (h : Header) (input : List Row) (d : Deal) : Type 0 where
   pub triples : length (d .triples) ≡ h .triples
   pub each : Masks (maskBits h) (d .masks)
 
+pub shape-from : (h : Header) (s : List ℕ) (n i : ℕ) → Shape h (rowsAt s n i (h .inputs)) (dealFrom h s n i)
+shape-from h s n i =
+    record { inputs = length-at s n _ _; masks = length-masks-from s n _ _ _; triples = length-triples-from s n _ _; each = masks-from s n _ _ _ }
+
 pub shape-in : (h : Header) (s : List ℕ) → Shape h (inputIn h s) (dealIn h s)
 unfolding inputIn dealIn
-shape-in h s = record {
-  inputs = length-at s (h .n) _ _;
-  masks = length-masks-from s (h .n) _ _ _;
-  triples = length-triples-from s (h .n) _ _;
-  each = masks-from s (h .n) _ _ _;
-}
+shape-in h s = shape-from h s (h .n) (inputsAt h)
 
 pub length-all : {h : Header} {xs : List Row} {d : Deal} → Shape h xs d → length (xs ++ dealRows d) ≡ rowCount h
 length-all {h} {xs} {d} S =

@@ -19,16 +19,17 @@ pub record Ended (Operand : Type 0) : Type 0 where
 
 -- "Each command gets exactly what the one before it left; a refused one ends the run." "Earlier commands stand. The refused command changes no
 -- cell, count or buffer, and its offset is the place. Otherwise the answer is 0 at END's offset." The lines xs, from what was spent (s) and the registers
--- (g); u is what there is, and `end` END's offset. `stop` says what an end gives, and `act` what a command gives, from the number of input rows loaded
--- before it, the command, the registers, and what is given for those that it leaves. `triples` is how many triples MOD takes for m.
-unfoldable pub throughLines : {Operand R : Type 0} → (Ended Operand → R) → (ℕ → Command → List Operand → (List Operand → R) → R) → (ℕ → ℕ) → Supply → ℕ
-    → List Line → Spent → List Operand → R
+-- (g); u is what there is, and `end` END's offset. `stop` says what an end gives, and `act` what a command gives, from what a refusal of it gives by its
+-- number, the number of input rows loaded before it, the command, the registers, and what is given for those that it leaves. `triples` is how many triples
+-- MOD takes for m.
+unfoldable pub throughLines : {Operand R : Type 0} → (Ended Operand → R) → ((ℕ → R) → ℕ → Command → List Operand → (List Operand → R) → R) → (ℕ → ℕ)
+    → Supply → ℕ → List Line → Spent → List Operand → R
 throughLines stop act triples u end [] s g = stop (record { number = 0; place = end; spent = s; registers = g })
-throughLines stop act triples u end (x ∷ xs) s g =
+throughLines {R = R} stop act triples u end (x ∷ xs) s g =
     let c = costBy triples (x .command) in
     let number = check u c s in
-    given number (act (s .counts .inputs) (x .command) g (throughLines stop act triples u end xs (pay c s)))
-    (stop (record { number = number; place = x .place; spent = s; registers = g }))
+    let refusal : ℕ → R = λ k. stop (record { number = k; place = x .place; spent = s; registers = g }) in
+    given number (act refusal (s .counts .inputs) (x .command) g (throughLines stop act triples u end xs (pay c s))) (refusal number)
 
 -- Registers b to b + w - 1 of g. `unset` is the operand of an unset register: "the cells of an unset register are 0". It also stands in where there is no
 -- such register or input row, which ranges and checks shut out.
@@ -69,4 +70,4 @@ module _ (p : ℕ) {Operand : Type 0} (O : Ops Operand) (unset : Operand) where
 
   abbrev pub lines : RemainderBy Operand (Ended Operand) → (ℕ → ℕ) → Supply → List Operand → ℕ → List Line → Spent → List Operand
       → Tree Operand (Ended Operand)
-  lines remainder triples u input end xs s g = throughLines done (command remainder input) triples u end xs s g
+  lines remainder triples u input end xs s g = throughLines done (λ refusal. command remainder input) triples u end xs s g

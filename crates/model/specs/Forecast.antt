@@ -38,7 +38,7 @@ nothingForeseen number place = record { number = number; place = place; spent = 
 -- The lines of a script from the start, gone over as a run goes over them, by the same checks and payments; the commands do nothing. l is the bits of a
 -- mask, u what there is, and `end` END's offset.
 unfoldable pub linesForeseen : ℕ → Supply → ℕ → List Line → Foreseen
-linesForeseen l u end xs = throughLines (λ e. e) (λ j c g go. go g) (modTriples l) u end xs nothingSpent []
+linesForeseen l u end xs = throughLines (λ e. e) (λ refusal j c g go. go g) (modTriples l) u end xs nothingSpent []
 
 unfoldable pub scriptForeseen : ℕ → Supply → Script → Foreseen
 scriptForeseen l u (refused number place) = nothingForeseen number place

@@ -36,6 +36,8 @@ pub mod Columns
 pub mod ColumnForms
 pub mod Forecast
 pub mod Forecasts
+pub mod Replay
+pub mod Replays
 pub mod Laws
 pub mod CaseForms
 pub mod SheetCases
