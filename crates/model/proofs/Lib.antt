@@ -73,5 +73,6 @@ pub mod ColumnForms
 pub mod Filled
 pub mod Foreseeing
 pub mod Forecasts
+pub mod ReplayTests
 pub mod Laws
 pub mod Cases
