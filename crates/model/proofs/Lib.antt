@@ -75,5 +75,6 @@ pub mod Foreseeing
 pub mod Forecasts
 pub mod ReplayTests
 pub mod ReplayRecord
+pub mod ReplayNumbers
 pub mod Laws
 pub mod Cases

@@ -2,14 +2,12 @@
 -- Assumes nothing.
 use mathlib.Core.Path.{_≡_, refl, sym, ap}
 use mathlib.Core.Logic.{_≢_}
-use mathlib.Core.Bool.{Bool}
 use mathlib.Core.List.{List, [], _∷_, _++_}
 use Prim.Native.Nat.{ℕ, zero, suc, _≤_, _<_}
 use native.Mathlib.Decide.{decLe}
 use native.Mathlib.Omega.{arith}
 use borrow.Author.Tests.{le-leb, lt-leb}
-use lib.Dec.{leb}
-use lib.ListN.{length, drop, length-append, List·getD-append}
+use lib.ListN.{length, length-append, List·getD-append}
 use lib.Seq.{drop-append-le}
 use Rattle.algebra.proofs.Rows.{row-ext}
 use Rattle.model.specs.Refusing.{firstFailed, given}
@@ -19,9 +17,9 @@ use Rattle.model.specs.Script.{Line, Script, accepted, refused}
 use Rattle.model.specs.Costs.{cost}
 use Rattle.model.specs.Checks.{Spent, Supply, check, pay}
 use Rattle.model.specs.Commands.{Ended, throughLines}
-use Rattle.model.specs.Sheet.{Header, headerOf}
+use Rattle.model.specs.Sheet.{headerOf}
 use Rattle.model.specs.Run.{rowCommand, sheetScript}
-use Rattle.model.specs.Replay.{Read, stopped, finished, oneColumn, ownShare, opening, openedValue, openingTests, openingNumber, fromRecord, byRecord, onward, replayLines, Replayed, replayedBy, replayTests, nothingReplayed, replayScript, replay}
+use Rattle.model.specs.Replay.{Read, stopped, finished, oneColumn, ownShare, opening, openingTests, openingNumber, fromRecord, byRecord, onward, replayLines, replayedBy, replayTests, nothingReplayed, replayScript, replay}
 use Rattle.model.proofs.Trying.{fails}
 
 -- The next opening is in the record, or the record is too short.

@@ -13,19 +13,17 @@ use Rattle.algebra.specs.Lists.{Below, allBelow, none, one}
 use Rattle.algebra.proofs.Lists.{all-below}
 use Rattle.algebra.proofs.Tests.{and-left, and-right, and-both, is-false}
 use Rattle.model.specs.Fields.{modulus}
-use Rattle.model.specs.Refusing.{firstFailed, given}
+use Rattle.model.specs.Refusing.{firstFailed}
 use Rattle.model.specs.Deal.{Setting, Row, Deal}
-use Rattle.model.specs.Script.{Line, refused}
 use Rattle.model.specs.Costs.{cost}
 use Rattle.model.specs.Checks.{Spent, Supply, check}
 use Rattle.model.specs.Commands.{Ended, throughLines}
 use Rattle.model.specs.Sheet.{Header, headerOf, inputsAt, limits, headerTests, limitTests}
-use Rattle.model.specs.Run.{sheetScript}
 use Rattle.model.specs.Columns.{partLength, sharesIn}
 use Rattle.model.specs.Forecast.{headLengthTests}
 use Rattle.model.specs.Replay.{replayLines, partyTests, partLengthTests, ownShareTests, replayTests, nothingReplayed, replayScript, replay}
 use Rattle.model.specs.Replays.{ReplayReady, BeforeReplay, ByLines}
-use Rattle.model.proofs.Trying.{given-done, given-refused, numbered, passes, fails, first-decide, others-decide, front-passes, others-pass, all-pass, both-pass}
+use Rattle.model.proofs.Trying.{given-refused, numbered, passes, fails, first-decide, others-decide, front-passes, others-pass, all-pass, both-pass}
 use Rattle.model.proofs.Lengths.{header-numbered}
 
 -- one test alone
