@@ -43,7 +43,8 @@ data Follows (e : Ended Row) (f : Foreseen) : Type 0 where
   alike : e .number ≡ f .number → e .place ≡ f .place → e .spent ≡ f .spent → Follows e f
 
 module _ (S : Setting) (j : ℕ) where
-  one-opening : {A : Type 0} (x : Row) (log : List ℕ) (go : ℕ → List ℕ → Read A) → ((v : ℕ) (rest : List ℕ) → Late (go v rest)) → Late (fromRecord S j x log go)
+  one-opening : {A : Type 0} (x : Row) (log : List ℕ) (go : ℕ → List ℕ → Read A) → ((v : ℕ) (rest : List ℕ) → Late (go v rest))
+      → Late (fromRecord S j x log go)
   unfolding fromRecord
   one-opening {A = A} x log go h = either _ (opening-late (S .p) (S .n) (S .t) j _ log) (h _ _)
     where
@@ -58,8 +59,8 @@ module _ (S : Setting) (j : ℕ) where
   one-tree (mask x go) d log = one-opening _ log _ λ C log₁. one-tree (go C _) _ log₁
   one-tree (reveal x rest) d log = one-opening _ log _ λ v log₁. one-tree rest d log₁
 
-  one-command : {x : Read (List Row)} → Late x → (refusal : ℕ → Ended Row) (go : List Row → Deal → List ℕ → Ended Row) {f : Foreseen} → ((k : ℕ) → refusal k .number ≡ k)
-      → ((g : List Row) (d : Deal) (log : List ℕ) → Follows (go g d log) f) → Follows (onward S j refusal go x) f
+  one-command : {x : Read (List Row)} → Late x → (refusal : ℕ → Ended Row) (go : List Row → Deal → List ℕ → Ended Row) {f : Foreseen}
+      → ((k : ℕ) → refusal k .number ≡ k) → ((g : List Row) (d : Deal) (log : List ℕ) → Follows (go g d log) f) → Follows (onward S j refusal go x) f
   one-command (stops {number} l) refusal go e h = refuses (rw (e number) l)
   one-command finishes refusal go e h = h _ _ _
 
@@ -96,7 +97,9 @@ module _ (j : ℕ) (head part log : List ℕ) where
 
   pub as-foreseen : ReplayReady j head part → From 41 43 (replay j head part log .number) ⊎ AsForeseen head (replay j head part log)
   unfolding replay foreseen
-  as-foreseen R = rw (ready j head part .0 R, good-head head (record { header = R .header; limits = R .limits; size = R .head-length })) (script-foreseen (sheetScript head))
+  as-foreseen R =
+      let G = good-head head (record { header = R .header; limits = R .limits; size = R .head-length }) in
+      rw (ready j head part .0 R, G) (script-foreseen (sheetScript head))
 
   -- 1 to 5, where these refuse
   early : firstFailed (replayTests j head part) ≢ 0 → From 1 5 (firstFailed (replayTests j head part))

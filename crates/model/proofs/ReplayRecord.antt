@@ -45,8 +45,8 @@ module _ (more : List ℕ) where
     finishes : {x : A} {d : Deal} {log : List ℕ} → More (finished x d log) (finished x d (log ++ more))
 
   module _ (S : Setting) (j : ℕ) where
-    one-opening : {A : Type 0} (x : Row) (log : List ℕ) (go : ℕ → List ℕ → Read A) → ((v : ℕ) (rest : List ℕ) → More (go v rest) (go v (rest ++ more)))
-        → More (fromRecord S j x log go) (fromRecord S j x (log ++ more) go)
+    one-opening : {A : Type 0} (x : Row) (log : List ℕ) (go : ℕ → List ℕ → Read A)
+        → ((v : ℕ) (rest : List ℕ) → More (go v rest) (go v (rest ++ more))) → More (fromRecord S j x log go) (fromRecord S j x (log ++ more) go)
     unfolding fromRecord
     one-opening {A = A} x log go h = pick (decLe (S .n) (length log))
       where
@@ -57,8 +57,9 @@ module _ (more : List ℕ) where
         pick : Dec (S .n ≤ length log) → More (fromRecord S j x log go) (fromRecord S j x (log ++ more) go)
         pick (no k) = rw (too-short (S .p) (S .n) (S .t) j (ownShare x) log (omega arith)) short
         pick (yes k) =
-            rw (same-number (S .p) (S .n) (S .t) j (ownShare x) log more k, same-opening (S .p) (S .n) (S .t) j (ownShare x) log more k, drop-append-le (S .n) log more k)
-            (either (openingNumber (S .p) (S .n) (S .t) j (ownShare x) log) (h _ _))
+            let own = ownShare x in
+            rw (same-number (S .p) (S .n) (S .t) j own log more k, same-opening (S .p) (S .n) (S .t) j own log more k, drop-append-le (S .n) log more k)
+            (either (openingNumber (S .p) (S .n) (S .t) j own log) (h _ _))
 
     one-tree : {A : Type 0} (T : Tree Row A) (d : Deal) (log : List ℕ) → More (byRecord S j T d log) (byRecord S j T d (log ++ more))
     unfolding byRecord
@@ -72,8 +73,8 @@ module _ (more : List ℕ) where
     abbrev Lasts : Ended Row → Ended Row → Type 0
     Lasts e f = e .number ≢ 43 → f ≡ e
 
-    one-command : {x y : Read (List Row)} → More x y → (refusal : ℕ → Ended Row) (go : List Row → Deal → List ℕ → Ended Row) → ((k : ℕ) → refusal k .number ≡ k)
-        → ((g : List Row) (d : Deal) (log : List ℕ) → Lasts (go g d log) (go g d (log ++ more))) → Lasts (onward S j refusal go x) (onward S j refusal go y)
+    one-command : {x y : Read (List Row)} → More x y → (refusal : ℕ → Ended Row) (go : List Row → Deal → List ℕ → Ended Row)
+        → ((k : ℕ) → refusal k .number ≡ k) → ((g : List Row) (d : Deal) (log : List ℕ) → Lasts (go g d log) (go g d (log ++ more))) → Lasts (onward S j refusal go x) (onward S j refusal go y)
     one-command short refusal go e h z = absurd (z (e 43))
     one-command stops refusal go e h z = refl
     one-command finishes refusal go e h z = h _ _ _ z

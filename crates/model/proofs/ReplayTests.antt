@@ -98,7 +98,8 @@ module _ (j : ℕ) (head part log : List ℕ) where
   replay-refused z e = rw e (given-refused (firstFailed (replayTests j head part)) _ _ (λ q. z (e ∙ q)))
 
   -- after 1, 2 and 3 of the header
-  after-header : {n : ℕ} → n ≢ 0 → firstFailed (headerTests head) ≡ 0 → n ≡ firstFailed (from-party j head part) → replay j head part log ≡ nothingReplayed n 0
+  after-header : {n : ℕ} → n ≢ 0 → firstFailed (headerTests head) ≡ 0 → n ≡ firstFailed (from-party j head part)
+      → replay j head part log ≡ nothingReplayed n 0
   unfolding replayTests
   after-header z e k = replay-refused z (others-decide (headerTests head) (from-party j head part) (header-numbered head) refl e k)
 
