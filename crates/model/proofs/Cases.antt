@@ -56,7 +56,7 @@ unfolding from modulus bits largestK inUse fieldTests settingTests parties numbe
 forecasts-hold = after columns-hold refl
 
 pub replays-hold : Hold replayCases
-unfolding add sub mul allBelow from tab row modulus bits largestK inUse fieldTests settingTests inverse inversePowerOf2 parties eval newton reciprocal slope interpolate number rowAt plus minus times constant comparisonFrom comparison spelled remainder floor sign overStep blocks byteSays allPass numberAt readingAt scriptFrom scriptOf costBy headerOf headerSize maskBits largestIn limits scriptIn rowsAt masksFrom triplesFrom all firstFailed headerTests limitTests headLengthTests allSet marked check pay registersFrom signs command throughLines nothingSpent sharesIn opening presentAt through openedValue openingTests fromRecord byRecord replayLines partInput partDeal partyTests partLengthTests ownShareTests replayTests replayScript replay cellsSeen replaySeen replayCases
+unfolding add sub mul allBelow from tab row modulus bits largestK inUse fieldTests settingTests inverse inversePowerOf2 parties eval newton reciprocal slope interpolate number rowAt plus minus times constant comparisonFrom comparison spelled remainder floor sign overStep blocks byteSays allPass numberAt readingAt scriptFrom scriptOf costBy headerOf headerSize maskBits largestIn limits scriptIn rowsAt masksFrom triplesFrom all firstFailed headerTests limitTests headLengthTests allSet marked check pay registersFrom signs command throughLines nothingSpent sharesIn opening presentAt through openedValue openingTests fromRecord byRecord replayLines partInput partDeal partyTests partLengthTests ownShareTests replayTests replayScript replay bytesOf shareBytes cellsSeen replaySeen replayCases
 replays-hold = after forecasts-hold refl
 
 pub scripts-hold : Hold scriptCases
