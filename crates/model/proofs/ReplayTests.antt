@@ -46,23 +46,12 @@ module _ (j : ℕ) (head part : List ℕ) where
   abbrev h : Header
   h = headerOf head
 
-  -- the tests from the party's on, from the limits' on, and so on
+  -- the tests from the lengths' on, and from the party's on
   abbrev from-lengths : List (Bool × ℕ)
   from-lengths = headLengthTests h head ++ (partLengthTests h part ++ ownShareTests h part)
 
   abbrev from-party : List (Bool × ℕ)
   from-party = partyTests h j ++ (limitTests h ++ from-lengths)
-
-  ready-passes : ReplayReady j head part → firstFailed (replayTests j head part) ≡ 0
-  unfolding replayTests partyTests headLengthTests partLengthTests ownShareTests
-  ready-passes R =
-      both-pass (headerTests head) _ (R .header)
-      (both-pass (partyTests h j) _ (all-pass (one (party-test h j .1 (R .party)) none))
-      (both-pass (limitTests h) _ (R .limits)
-      (all-pass
-      (one (eqb-of (length head) (inputsAt h) (R .head-length))
-      (one (eqb-of (length part) (partLength h) (R .part-length))
-      (one (all-below (modulus (h .field)) (sharesIn h part) .1 (R .shares)) none))))))
 
   passes-ready : firstFailed (replayTests j head part) ≡ 0 → ReplayReady j head part
   unfolding replayTests partyTests limitTests headLengthTests partLengthTests ownShareTests numbered
@@ -79,6 +68,17 @@ module _ (j : ℕ) (head part : List ℕ) where
         part-length = eqb→eq (length part) (partLength h) (one-passed _ 3 (front-passes (partLengthTests h part) (ownShareTests h part) tt e₄));
         shares = all-below (modulus (h .field)) (sharesIn h part) .0 (one-passed _ 4 (others-pass (partLengthTests h part) (ownShareTests h part) tt e₄));
       }
+
+  ready-passes : ReplayReady j head part → firstFailed (replayTests j head part) ≡ 0
+  unfolding replayTests partyTests headLengthTests partLengthTests ownShareTests
+  ready-passes R =
+      both-pass (headerTests head) _ (R .header)
+      (both-pass (partyTests h j) _ (all-pass (one (party-test h j .1 (R .party)) none))
+      (both-pass (limitTests h) _ (R .limits)
+      (all-pass
+      (one (eqb-of (length head) (inputsAt h) (R .head-length))
+      (one (eqb-of (length part) (partLength h) (R .part-length))
+      (one (all-below (modulus (h .field)) (sharesIn h part) .1 (R .shares)) none))))))
 
   -- what is asked is what is tested
   pub ready : ReplayReady j head part ↔ (firstFailed (replayTests j head part) ≡ 0)
