@@ -76,5 +76,6 @@ pub mod Forecasts
 pub mod ReplayTests
 pub mod ReplayRecord
 pub mod ReplayNumbers
+pub mod Replays
 pub mod Laws
 pub mod Cases
