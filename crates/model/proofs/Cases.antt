@@ -21,7 +21,8 @@ use Rattle.model.specs.Run.{allSet, marked, check, pay, runLines, nothin
 use Rattle.model.specs.Calls.{isTEXTDATA, alone, plain, quoted, field, isEnd, fields, readLine, isDigit, allDigits, decimalFrom, time, lasting, call, fourFields, lineAt, lineNumber, taken, imported}
 use Rattle.model.specs.Columns.{sharesFrom, regrouped, transposed, columnForm, sheetForm, shapeTests, outputTests, turnTests, outputLeft, partOf, sharesIn}
 use Rattle.model.specs.Forecast.{headLengthTests, headTests, linesForeseen, scriptForeseen, foreseen, forecast}
-use Rattle.model.specs.CaseForms.{registersSeen, seen, Hold}
+use Rattle.model.specs.Replay.{opening, presentAt, through, openedValue, openingTests, fromRecord, byRecord, replayLines, partInput, partDeal, partyTests, partLengthTests, ownShareTests, replayTests, replayScript, replay}
+use Rattle.model.specs.CaseForms.{registersSeen, seen, Hold, cellsSeen, replaySeen}
 use Rattle.model.specs.SheetCases.{sheetCases}
 use Rattle.model.specs.ScriptCases.{scriptCases}
 use Rattle.model.specs.RunCases.{runCases}
@@ -31,6 +32,7 @@ use Rattle.model.specs.EntryCases.{entryCases}
 use Rattle.model.specs.CallCases.{callCases}
 use Rattle.model.specs.ColumnCases.{columnCases}
 use Rattle.model.specs.ForecastCases.{forecastCases}
+use Rattle.model.specs.ReplayCases.{replayCases}
 use Rattle.model.specs.Cases.{checks, partsSeen, weightsSeen, Cases}
 use Rattle.model.proofs.Laws.{laws}
 
@@ -53,9 +55,13 @@ pub forecasts-hold : Hold forecastCases
 unfolding from modulus bits largestK inUse fieldTests settingTests parties number byteSays allPass numberAt readingAt scriptFrom scriptOf costBy headerOf headerSize maskBits largestIn limits scriptIn firstFailed headerTests limitTests headLengthTests headTests allSet marked check pay throughLines nothingSpent linesForeseen scriptForeseen foreseen forecast forecastCases
 forecasts-hold = after columns-hold refl
 
+pub replays-hold : Hold replayCases
+unfolding add sub mul allBelow from tab row modulus bits largestK inUse fieldTests settingTests inverse inversePowerOf2 parties eval newton reciprocal slope interpolate number rowAt plus minus times constant comparisonFrom comparison spelled remainder floor sign overStep blocks byteSays allPass numberAt readingAt scriptFrom scriptOf costBy headerOf headerSize maskBits largestIn limits scriptIn rowsAt masksFrom triplesFrom all firstFailed headerTests limitTests headLengthTests allSet marked check pay registersFrom signs command throughLines nothingSpent sharesIn opening presentAt through openedValue openingTests fromRecord byRecord replayLines partInput partDeal partyTests partLengthTests ownShareTests replayTests replayScript replay bytesOf shareBytes cellsSeen replaySeen replayCases
+replays-hold = after forecasts-hold refl
+
 pub scripts-hold : Hold scriptCases
 unfolding byRows add sub mul allBelow from onto tab row modulus bits largestK inUse fieldTests settingTests inverse parties bit presentIn everyone permittedSet eval share newton reciprocal slope interpolate recover secret sameList isSharing number rowAt byteSays allPass numberAt readingAt scriptFrom scriptOf costBy headerOf headerSize maskBits largestIn limits impliedLength scriptIn rowsAt masksFrom triplesFrom inputIn dealIn all maskRows tripleRows spell secrets goodMask goodTriple firstFailed headerTests presentTests limitTests lengthTests rowTests sheetTests bytesOf shareBytes allSet marked check pay command throughLines runLines nothingSpent start written outcome runScript stopOf run registersSeen seen scriptCases
-scripts-hold = after forecasts-hold refl
+scripts-hold = after replays-hold refl
 
 pub sheets-hold : Hold sheetCases
 unfolding byRows add sub mul allBelow from onto tab row modulus bits largestK inUse fieldTests settingTests inverse parties bit presentIn everyone permittedSet eval share newton reciprocal slope interpolate recover secret sameList isSharing number rowAt byteSays allPass numberAt readingAt scriptFrom scriptOf costBy headerOf headerSize maskBits largestIn limits impliedLength scriptIn rowsAt masksFrom triplesFrom inputIn dealIn all maskRows tripleRows spell secrets goodMask goodTriple firstFailed headerTests presentTests limitTests lengthTests rowTests sheetTests bytesOf shareBytes allSet marked check pay command throughLines runLines nothingSpent start written outcome runScript stopOf run registersSeen seen sheetCases
@@ -75,4 +81,4 @@ masked-hold = after presents-hold refl
 
 pub cases : Cases
 unfolding add sub mul total modulus inverse reciprocal ratio weight bit presentIn absentIn openers weightsSeen tab bits number headerOf headerSize maskBits bytesOf shareBytes sharesFrom regrouped transposed columnForm partOf sharesIn partsSeen from onto firstFailed allSet check checks isTEXTDATA alone plain quoted field isEnd fields readLine isDigit allDigits decimalFrom time lasting call fourFields lineAt lineNumber taken imported
-cases = record { sheets = sheets-hold; scripts = scripts-hold; runs = runs-hold; masked = masked-hold; presents = presents-hold; order = refl; entries = entries-hold; calls = calls-hold; columns = columns-hold; forecasts = forecasts-hold; parts = refl; weights = refl; opened-of-five = refl; opened-of-seven = refl; values = refl; plain-names = refl; quoted-names = refl }
+cases = record { sheets = sheets-hold; scripts = scripts-hold; runs = runs-hold; masked = masked-hold; presents = presents-hold; order = refl; entries = entries-hold; calls = calls-hold; columns = columns-hold; forecasts = forecasts-hold; replays = replays-hold; parts = refl; weights = refl; opened-of-five = refl; opened-of-seven = refl; values = refl; plain-names = refl; quoted-names = refl }

@@ -152,7 +152,7 @@ module _ (s log revealed : List ℕ) (R : RightSheet s) (l : recordLength ≤ le
       as-run ∙ λ i. record { number = sym (x .number) i; place = sym (x .place) i }
 
 -- where 1 to 4 do not refuse, and only there
-good-head : (s : List ℕ) → GoodHead s → firstFailed (headTests s) ≡ 0
+pub good-head : (s : List ℕ) → GoodHead s → firstFailed (headTests s) ≡ 0
 unfolding headTests headLengthTests
 good-head s G =
     let h = headerOf s in

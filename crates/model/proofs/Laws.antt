@@ -26,6 +26,7 @@ use Rattle.model.proofs.CallReading.{reads}
 use Rattle.model.proofs.CallLists.{call-lists}
 use Rattle.model.proofs.ColumnForms.{every-form}
 use Rattle.model.proofs.Forecasts.{forecasts}
+use Rattle.model.proofs.Replays.{replays}
 
 pub laws : Laws
 laws =
@@ -63,4 +64,5 @@ laws =
       call-lists = call-lists;
       column-forms = every-form;
       forecasts = forecasts;
+      replays = replays;
     }

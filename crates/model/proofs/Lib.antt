@@ -81,5 +81,9 @@ pub mod ReplayLines
 pub mod PartColumns
 pub mod ReplayReady
 pub mod ReplayRuns
+pub mod ReplayTests
+pub mod ReplayRecord
+pub mod ReplayNumbers
+pub mod Replays
 pub mod Laws
 pub mod Cases

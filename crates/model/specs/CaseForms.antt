@@ -1,11 +1,12 @@
--- The forms of the rows in SheetCases, ScriptCases, RunCases, MaskCases, PresentCases, EntryCases, CallCases, ColumnCases and ForecastCases: what the definitions
--- give, and what the reference answers by paper and requests.
+-- The forms of the rows in SheetCases, ScriptCases, RunCases, MaskCases, PresentCases, EntryCases, CallCases, ColumnCases, ForecastCases and ReplayCases: what
+-- the definitions give, and what the reference answers by paper and requests.
 -- Assumes nothing.
 use mathlib.Core.Path.{_≡_}
 use mathlib.Core.Bool.{Bool, true, false, cond}
 use mathlib.Core.List.{List, [], _∷_, _++_, map}
 use mathlib.Core.Option.{Option, none, some}
 use Prim.Native.Nat.{ℕ, suc}
+use lib.Dec.{eqb}
 use lib.IntN.{ℤ, pos}
 use lib.ListN.{length, getD, replicate}
 use Rattle.algebra.specs.Lists.{from, sameList}
@@ -18,6 +19,7 @@ use Rattle.model.specs.Run.{Outcome, run}
 use Rattle.model.specs.Calls.{Imported, imported}
 use Rattle.model.specs.Columns.{columnForm, sheetForm, turnNumber, outputLeft}
 use Rattle.model.specs.Forecast.{Forecast, forecast}
+use Rattle.model.specs.Replay.{Replayed, replay}
 
 -- a register that is set, its number before its cells; one that is unset is left out where its cells are 0
 abbrev pub oneSeen : ℕ → Bool → Row → List (List ℕ)
@@ -142,3 +144,16 @@ ForecastCase = Told Forecast
 
 abbrev pub forecastOf : List ℕ → ℕ → ℕ → ForecastCase
 forecastOf head number place = record { computed = forecast head; told = record { number = number; place = place } }
+
+-- the cells that are not 0, each with its register before it, in rising order of register
+unfoldable pub cellsSeen : ℕ → List ℕ → List (List ℕ)
+cellsSeen r [] = []
+cellsSeen r (v ∷ cells) = let rest = cellsSeen (suc r) cells in cond (eqb v 0) rest ((r ∷ v ∷ []) ∷ rest)
+
+-- all that a replay leaves: number, place, inputs, masks, triples, openings and how many values were revealed; and the cells
+unfoldable pub replaySeen : Replayed → List (List ℕ)
+replaySeen x = (x .number ∷ x .place ∷ listed (x .counts)) ∷ cellsSeen 0 (x .cells)
+
+-- A replay by a party, from a header's bytes, a script, the bytes of the party's part, and the record.
+abbrev pub replayOf : ℕ → List ℕ → List ℕ → List ℕ → List ℕ → List (List ℕ) → Case
+replayOf party header script part log told = record { computed = replaySeen (replay party (header ++ script) part log); told = told }

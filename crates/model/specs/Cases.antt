@@ -25,6 +25,7 @@ use Rattle.model.specs.EntryCases.{entryCases}
 use Rattle.model.specs.CallCases.{callCases}
 use Rattle.model.specs.ColumnCases.{columnCases}
 use Rattle.model.specs.ForecastCases.{forecastCases}
+use Rattle.model.specs.ReplayCases.{replayCases}
 
 -- "Tried before a command changes anything, in this order": 21 to 26. No command takes both an input row and a mask, so no sheet shows where 22
 -- stands in the order. Here a command reads register 0 and takes one of everything.
@@ -58,8 +59,9 @@ weightsSeen f b =
     let xs = presentIn b (from 1 7) in
     map (λ e. total xs (λ x. weight p xs x * x ^ e) % p) (from 0 (length xs))
 
--- Each row of the nine tables computes to what the reference, a separately written program, answers by paper and requests. It writes the tables, and
--- the proved programs `cases`, `entries`, `call_cases`, `column_cases` and `forecast_cases` answer the same sheets, calls, lists, inputs and heads.
+-- Each row of the ten tables computes to what the reference, a separately written program, answers by paper and requests. It writes the tables, and
+-- the proved programs `cases`, `entries`, `call_cases`, `column_cases`, `forecast_cases` and `replay_cases` answer the same sheets, calls, lists, inputs, heads
+-- and replays.
 pub record Cases : Type 0 where
   pub sheets : Hold sheetCases
   pub scripts : Hold scriptCases
@@ -71,6 +73,7 @@ pub record Cases : Type 0 where
   pub calls : Hold callCases
   pub columns : Hold columnCases
   pub forecasts : Hold forecastCases
+  pub replays : Hold replayCases
   -- "all of party 1's shares (inputs, masks, triples in sheet order), then party 2's, and so on": of three parties, a script of two bytes, one input row,
   -- one mask of 4 rows and one triple, with the shares 1 to 24 in the sheet's order
   pub parts : partsSeen (0 ∷ 3 ∷ 1 ∷ 1 ∷ 0 ∷ 1 ∷ 0 ∷ 1 ∷ 0 ∷ 2 ∷ 0 ∷ 201 ∷ 202 ∷ shareBytes (from 1 24))

@@ -20,6 +20,7 @@ use Rattle.model.specs.PresentRuns.{PresentRuns}
 use Rattle.model.specs.CallLists.{Reads, CallLists}
 use Rattle.model.specs.ColumnForms.{ColumnForms}
 use Rattle.model.specs.Forecasts.{Forecasts}
+use Rattle.model.specs.Replays.{Replays}
 
 pub record Laws : Type 0 where
   pub fields-tested : FieldsTested
@@ -55,3 +56,4 @@ pub record Laws : Type 0 where
   pub call-lists : CallLists
   pub column-forms : ColumnForms
   pub forecasts : Forecasts
+  pub replays : Replays

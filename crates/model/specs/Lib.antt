@@ -49,4 +49,5 @@ pub mod EntryCases
 pub mod CallCases
 pub mod ColumnCases
 pub mod ForecastCases
+pub mod ReplayCases
 pub mod Cases
