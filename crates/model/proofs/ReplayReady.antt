@@ -4,9 +4,10 @@ use mathlib.Core.Path.{_≡_, refl, _∙_}
 use mathlib.Core.List.{List, [], map}
 use Prim.Native.Nat.{ℕ, suc, _≤_, _<_}
 use native.Mathlib.Omega.{arith}
-use lib.Dec.{T, ltb, leb, lt→ltb, le→leb, eqb-refl}
+use lib.Dec.{T, ltb, lt→ltb}
 use lib.ListN.{length, getD}
 use Rattle.algebra.specs.Lists.{All, none, one, allBelow}
+use Rattle.algebra.proofs.Lists.{all-below}
 use Rattle.algebra.proofs.Tests.{and-both}
 use Rattle.model.specs.Fields.{Modulus, Parties}
 use Rattle.model.specs.Sharing.{Sharing}
@@ -15,12 +16,12 @@ use Rattle.model.specs.Refusing.{firstFailed}
 use Rattle.model.specs.Deal.{Row}
 use Rattle.model.specs.Sheet.{Header, headerOf, inputsAt, inputIn, dealIn, headerTests, limitTests, sheetNumber}
 use Rattle.model.specs.Exactness.{Accepted}
-use Rattle.model.specs.Columns.{columnForm, partLength, partOf, sharesIn, columnIn}
+use Rattle.model.specs.Columns.{columnForm, partOf, sharesIn, columnIn}
 use Rattle.model.specs.ColumnForms.{Shaped, InParts}
-use Rattle.model.specs.Forecast.{headIn, headLengthTests}
-use Rattle.model.specs.Replay.{partInput, partDeal, partyTests, partLengthTests, ownShareTests, replayTests}
+use Rattle.model.specs.Forecast.{headIn}
+use Rattle.model.specs.Replay.{partInput, partDeal, replayTests}
 use Rattle.model.proofs.Fields.{fields}
-use Rattle.model.proofs.Trying.{all-pass, both-pass}
+use Rattle.model.proofs.Trying.{all-pass}
 use Rattle.model.proofs.Sharings.{share-lt}
 use Rattle.model.proofs.Lengths.{header-passes}
 use Rattle.model.proofs.SheetDeal.{implied}
@@ -30,6 +31,7 @@ use Rattle.model.proofs.ColumnForms.{every-form}
 use Rattle.model.proofs.Forecasts.{same-header, whole-head}
 use Rattle.model.proofs.OneColumn.{columnRow, columnDeal}
 use Rattle.model.proofs.PartColumns.{part-columns}
+use Rattle.model.proofs.ReplayTests.{ready}
 
 -- a column of sharings is below p
 column-below : {p n t : ℕ} → Modulus p → Parties n t → (i : ℕ) → i < n → {xs : List Row} → All (Sharing p n t) xs → T (allBelow p (map (λ (x : Row). getD x i 0) xs))
@@ -69,15 +71,16 @@ module _ {present : ℕ} {s : List ℕ} (A : Accepted present s) (i : ℕ) (l : 
       (record { long = rw (same-header s, whole-head s long) (omega arith); field = rw (same-header s) (P .field); people = rw (same-header s) (P .people) })
 
   pub none-refuses : firstFailed (replayTests (suc i) (headIn s) part) ≡ 0
-  unfolding replayTests partyTests limitTests headLengthTests partLengthTests ownShareTests columnIn
+  unfolding limitTests columnIn
   none-refuses =
       let Q = sound present s (A .number) in
       let M = fields (h .field) (Q .permitted .field) .modulus-is in
-      rw (same-header s)
-      (both-pass (headerTests (headIn s)) _ header-passed
-      (all-pass
-      (one (and-both (leb 1 (suc i)) (leb (suc i) (h .n)) (le→leb 1 (suc i) (omega arith)) (le→leb (suc i) (h .n) l))
-      (one (Q .permitted .counts)
-      (one (rw (whole-head s long) (eqb-refl (inputsAt h)))
-      (one (rw (in-parts .length-each (suc i) (omega arith) l) (eqb-refl (partLength h)))
-      (one (rw part-column (column-below M (Q .permitted .people) i l (Q .sharings))) none)))))))
+      ready (suc i) (headIn s) part .0
+      (record {
+        header = header-passed;
+        party = rw (same-header s) (omega arith);
+        limits = rw (same-header s) (all-pass (one (Q .permitted .counts) none));
+        head-length = rw (same-header s) (whole-head s long);
+        part-length = rw (same-header s) (in-parts .length-each (suc i) (omega arith) l);
+        shares = rw (same-header s) (all-below _ _ .0 (rw part-column (column-below M (Q .permitted .people) i l (Q .sharings))));
+      })
