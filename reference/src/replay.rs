@@ -2,11 +2,15 @@
 //! table, and the counts.
 
 pub mod case;
+mod change;
+mod dealt;
+pub mod held;
 mod machine;
 mod part;
 mod record;
 pub mod recorded;
 mod steps;
+pub mod stored;
 
 use crate::refusal;
 use crate::run::REGISTERS;
