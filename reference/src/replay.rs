@@ -4,6 +4,8 @@
 pub mod case;
 mod change;
 mod dealt;
+pub mod drawn;
+mod fault;
 pub mod held;
 mod machine;
 mod part;

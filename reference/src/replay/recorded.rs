@@ -69,7 +69,7 @@ impl Recorded {
 }
 
 /// Each party's part of the sheet's column form, if the sheet has one.
-fn parts_of(sheet: &[u8]) -> Option<Vec<Vec<u8>>> {
+pub fn parts_of(sheet: &[u8]) -> Option<Vec<Vec<u8>>> {
     let mut columns = vec![0; sheet.len()];
     if to_columns(sheet, &mut columns) != 0 {
         return None;

@@ -1,7 +1,14 @@
 //! The stored cases, ordered by subject. All but those of the model's table and the drawn ones say what is
 //! answered.
 
+mod absent;
+mod drawn;
 mod numbers;
+mod openings;
+mod runs;
+mod scripts;
+mod shares;
+mod stops;
 
 use std::collections::HashSet;
 
@@ -22,11 +29,19 @@ pub fn all() -> Vec<Case> {
 fn by_subject() -> Vec<Case> {
     let mut cases: Vec<Case> = told().into_iter().map(|(case, ..)| case).collect();
     cases.extend(held::cases());
+    cases.extend(drawn::all());
     cases
 }
 
 fn told() -> Vec<Told> {
-    numbers::all()
+    let mut told = numbers::all();
+    told.extend(scripts::all());
+    told.extend(stops::all());
+    told.extend(runs::all());
+    told.extend(absent::all());
+    told.extend(openings::all());
+    told.extend(shares::all());
+    told
 }
 
 #[cfg(test)]
@@ -64,7 +79,7 @@ mod tests {
 
     #[test]
     fn cases_and_answers_are_within_bounds() {
-        STORED.is_within(1_000..=3_000, 800_000);
+        STORED.is_within(2_000..=3_500, 800_000);
         let length: usize = all().iter().map(|case| case.to_bytes().len()).sum();
         assert!(length < 600_000, "{length}");
     }
