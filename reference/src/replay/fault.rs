@@ -3,6 +3,7 @@
 use super::case::{Case, LONGEST_RECORD};
 use super::recorded::Recorded;
 use crate::cases::generator::Generator;
+use crate::field::FIELDS;
 use crate::forecast::fault;
 use crate::present::permitted;
 
@@ -43,7 +44,7 @@ pub fn drawn(generator: &mut Generator, recorded: &Recorded, mut case: Case) -> 
 }
 
 fn modulus(recorded: &Recorded) -> u32 {
-    crate::field::FIELDS[usize::from(recorded.head[0])].modulus
+    FIELDS[usize::from(recorded.head[0])].modulus
 }
 
 /// A place of the record, often one of the first.

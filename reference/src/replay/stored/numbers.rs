@@ -5,7 +5,8 @@ use crate::cases::PERMITTED;
 use crate::field::FIELDS;
 use crate::refusal::{COMMAND, FIELD, HEADER, LENGTH, NONE, PARTIES, VALUE};
 use crate::replay::case::Case;
-use crate::replay::dealt::{product, Work};
+use crate::replay::dealt::{product, recorded, Work};
+use crate::script::command::script_of;
 use crate::script::command::Command::*;
 
 pub fn all() -> Vec<Told> {
@@ -63,7 +64,7 @@ const OUTSIDE: [(u8, u8); 12] = [
     (7, 4),
 ];
 
-/// Every number of parties: the first and the last party, and those that are none of them.
+/// Every number of parties: each of them, and numbers that are none of them.
 fn parties() -> Vec<Told> {
     let mut all = Vec::new();
     for (n, t) in PERMITTED {
@@ -94,15 +95,19 @@ fn counts() -> Vec<Told> {
         let over = [limit + 1, 1 << 15, u16::MAX];
         all.extend(over.map(|count| (with(count), LENGTH, 0)));
     }
-    // CONST 63 0 170 times, and ADD 3 3 3 where a byte is over: 1,020 bytes and four
-    let script = [[2, 63, 0, 0, 0, 0].repeat(170), vec![3, 63, 63, 63]].concat();
-    let longest = |length: usize| {
-        let script = [&script[..length - 1], &[0]].concat();
-        end(0, (3, 1)).with_script(&script)
-    };
-    all.push((longest(1_021), NONE, 1_020));
-    all.push((longest(1_025), LENGTH, 0));
+    let longest = longest();
+    let longer = [&longest[..], &[0]].concat();
+    all.push((end(0, (3, 1)).with_script(&longest), NONE, 1_023));
+    all.push((end(0, (3, 1)).with_script(&longer), LENGTH, 0));
     all
+}
+
+/// A script of 1,024 bytes: commands of 1,008, 7, 4 and 4 bytes, and END.
+fn longest() -> Vec<u8> {
+    let (d, a, b, v) = (63, 63, 63, 5);
+    let mut commands = vec![Const { d, v }; 168];
+    commands.extend([Scale { d, a, v }, Add { d, a, b }, Add { d, a, b }]);
+    script_of(&commands)
 }
 
 /// Head and part some bytes too short or too long.
@@ -142,7 +147,7 @@ fn shares() -> Vec<Told> {
         let work = Work::new(&[Load { d: 0 }, Load { d: 1 }], &[1, 2], &[3]);
         let mut draft = work.draft(71, (field, (3, 1)));
         draft.triples = product().draft(72, (field, (3, 1))).triples;
-        let good = crate::replay::dealt::recorded(&draft).case(3);
+        let good = recorded(&draft).case(3);
         let count = good.part.len() / 4;
         for index in [0, 1, 2, count - 4, count - 3, count - 2, count - 1] {
             for share in [0, p - 1] {

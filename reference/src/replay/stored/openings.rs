@@ -4,7 +4,7 @@
 use super::Told;
 use crate::refusal::{NONE, OPENING, OWN_SHARE, RECORD_SHORT};
 use crate::replay::case::Case;
-use crate::replay::dealt::{each_opening, Work, SMALL};
+use crate::replay::dealt::{each_opening, product, Work, SMALL};
 use crate::script::command::Command;
 
 const N: usize = 3;
@@ -12,9 +12,31 @@ const P: u32 = 13;
 
 pub fn all() -> Vec<Told> {
     let works = (100..).zip(each_opening());
-    works
+    let mut all: Vec<Told> = works
         .flat_map(|(index, work)| at_each(index, &work))
-        .collect()
+        .collect();
+    all.extend(fields());
+    all
+}
+
+/// In every field, at the second opening of a product: p, the numbers above it, and others below it.
+fn fields() -> Vec<Told> {
+    let mut all = Vec::new();
+    for field in 0..4 {
+        let recorded = product().recorded(110, (field, (3, 1)));
+        for place in N..2 * N {
+            let case = recorded.case(1 + place % N);
+            let p = case.modulus();
+            let with = |number| case.clone().with_number(place, number);
+            all.push((with(p), NONE, 10));
+            all.push((with(p + 1), OPENING, 4));
+            all.push((with(u32::MAX), OPENING, 4));
+            all.push((case.clone().with_damaged(1, 1 + place % N), OPENING, 4));
+            let other = case.with_added(1, (u64::from(p) - 1, 0));
+            all.push((other, OWN_SHARE, 4));
+        }
+    }
+    all
 }
 
 fn at_each(index: u64, work: &Work) -> Vec<Told> {
@@ -29,10 +51,9 @@ fn at_each(index: u64, work: &Work) -> Vec<Told> {
         let others = 0b111 & !(1 << (opening % N));
         let absent = case.with_present(opening, others);
         all.push((absent.clone(), NONE, work.end()));
-        // the lowest two of the others are those that are left, so all of the record is looked at
-        let damaged = 1 + (opening + 1) % N;
-        let gone = absent.with_present(opening, 1 << (damaged - 1));
-        all.push((gone, OPENING, place));
+        // of the two others one is left
+        let alone = absent.with_present(opening, 1 << ((opening + 1) % N));
+        all.push((alone, OPENING, place));
     }
     all
 }

@@ -13,7 +13,8 @@ use crate::sheets::{bench, examples};
 pub fn all() -> Vec<Told> {
     let mut all = parties();
     all.extend(sets());
-    all.extend(commands());
+    all.extend(masked());
+    all.extend(plain());
     all.extend(signs());
     all.extend(left_over());
     all.extend(sheets());
@@ -56,57 +57,66 @@ fn sets() -> Vec<Told> {
     all
 }
 
-/// Every command, in the smallest widths and in the largest.
-fn commands() -> Vec<Told> {
+/// The field's number and its largest k.
+const WIDTHS: [(u32, u8); 4] = [(0, 3), (1, 7), (2, 15), (3, 30)];
+
+/// Every command that takes a mask, in the smallest width and in the largest. In field 3 the largest is long, and
+/// LTZ stands for all.
+fn masked() -> Vec<Told> {
     let mut all = Vec::new();
-    for (field, largest) in (0..).zip([3, 7, 15, 30]) {
-        let (d, a, b, v) = (2, 0, 1, 3);
+    for (field, largest) in WIDTHS {
         for (k, m) in [(2, 1), (largest, largest - 1)] {
-            for (index, command) in [
-                Mod { d, a, k, m },
-                Trunc { d, a, k, m },
-                Ltz { d, a, k },
-                Over { d, a, k, v },
-                Blocks { d, a, k, m },
-                Ltzs { d, a, h: 1, k },
-            ]
-            .into_iter()
-            .enumerate()
-            {
-                let long = field == 3 && m > 1;
-                if long && index != 2 {
+            let only_ltz = field == 3 && m > 1;
+            for (index, command) in (0..).zip(with_widths(k, m)) {
+                if only_ltz && !matches!(command, Ltz { .. }) {
                     continue;
                 }
-                let commands = [Load { d: 0 }, command];
-                let work = Work::new(&commands, &[5], &[11]);
-                let recorded = work.recorded(210 + index as u64, (field, (3, 1)));
-                let case = recorded.case(1 + index % 3);
+                let work = Work::new(&[Load { d: 0 }, command], &[5], &[11]);
+                let recorded = work.recorded(210 + index, (field, (3, 1)));
+                let case = recorded.case(1 + index as usize % 3);
                 all.push((case, NONE, work.end()));
             }
         }
-        let plain = [
-            Load { d: 0 },
-            Load { d: 1 },
-            Const { d: 63, v: 12 },
-            Add { d, a, b },
-            Sub { d: 3, a, b: 63 },
-            Scale { d: 4, a: 3, v: 7 },
-            Mul { d: 0, a: 0, b: 4 },
-            Bitlt {
-                d: 5,
-                b: 0,
-                w: 5,
-                v: 22,
-            },
-            Bitlt {
-                d: 6,
-                b: 63,
-                w: 1,
-                v: 0,
-            },
-            Reveal { a: 5 },
-        ];
-        let work = Work::new(&plain, &[9, 1], &[]);
+    }
+    all
+}
+
+fn with_widths(k: u8, m: u8) -> [Command; 6] {
+    let (d, a, v) = (2, 0, 3);
+    [
+        Mod { d, a, k, m },
+        Trunc { d, a, k, m },
+        Ltz { d, a, k },
+        Over { d, a, k, v },
+        Blocks { d, a, k, m },
+        Ltzs { d, a, h: 1, k },
+    ]
+}
+
+/// Every other command.
+fn plain() -> Vec<Told> {
+    let (d, a, b) = (2, 0, 1);
+    let (v, w) = (22, 5);
+    let commands = [
+        Load { d: 0 },
+        Load { d: 1 },
+        Const { d: 63, v: 12 },
+        Add { d, a, b },
+        Sub { d: 3, a, b: 63 },
+        Scale { d: 4, a: 3, v: 7 },
+        Mul { d: 0, a, b: 4 },
+        Bitlt { d: 5, b: 0, w, v },
+        Bitlt {
+            d: 6,
+            b: 63,
+            w: 1,
+            v: 0,
+        },
+        Reveal { a: 5 },
+    ];
+    let work = Work::new(&commands, &[9, 1], &[]);
+    let mut all = Vec::new();
+    for field in 0..4 {
         for parties in [(3, 1), (7, 3)] {
             let recorded = work.recorded(220, (field, parties));
             all.extend(of(&recorded, work.end()).step_by(2));
