@@ -51,6 +51,10 @@ fn no_polynomial() -> Vec<Held> {
             first().with_damaged(0, 1),
         ),
         held("42: p and 1", first().with_number(1, 14)),
+        held(
+            "42: p more than the share, which is the same modulo p",
+            first().with_number(1, 13 + 6),
+        ),
         held("42: 2^32 less 1", first().with_number(5, u32::MAX)),
         held("42: one share present", first().with_present(1, 0b001)),
     ]

@@ -19,7 +19,8 @@ pub fn all() -> Vec<Told> {
     all
 }
 
-/// In every field, at the second opening of a product: p, the numbers above it, and others below it.
+/// In every field, at the second opening of a product: p, the numbers above it, and others below it. A share with p
+/// added is above p too, also where no more than t + 1 are present, so that the polynomial does not tell.
 fn fields() -> Vec<Told> {
     let mut all = Vec::new();
     for field in 0..4 {
@@ -31,6 +32,10 @@ fn fields() -> Vec<Told> {
             all.push((with(p), NONE, 10));
             all.push((with(p + 1), OPENING, 4));
             all.push((with(u32::MAX), OPENING, 4));
+            let more = with(p + case.record[place].max(1));
+            all.push((more.clone(), OPENING, 4));
+            let others = 0b111 & !(1 << ((place + 1) % N));
+            all.push((more.with_present(1, others), OPENING, 4));
             all.push((case.clone().with_damaged(1, 1 + place % N), OPENING, 4));
             let other = case.with_added(1, (u64::from(p) - 1, 0));
             all.push((other, OWN_SHARE, 4));
@@ -83,14 +88,16 @@ fn short(case: &Case, opening: usize, place: usize) -> Vec<Told> {
     all
 }
 
-/// A share changed, the own one too, and a number above p, also where the own share differs.
+/// A share changed, the own one too; one with p added twice, which is the same modulo p; and a number above p
+/// where the own share differs.
 fn no_polynomial(case: &Case, opening: usize, place: usize) -> Vec<Told> {
     let number = N * opening + (opening + 2) % N;
     let other = case.clone().with_added(opening, (1, 0));
     [
         case.clone().with_damaged(opening, 1 + (opening + 1) % N),
         case.clone().with_damaged(opening, 1 + opening % N),
-        case.clone().with_number(number, P + 1),
+        case.clone()
+            .with_number(number, 2 * P + case.record[number]),
         other.with_number(number, u32::MAX),
     ]
     .map(|case| (case, OPENING, place))
