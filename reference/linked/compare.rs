@@ -1,5 +1,5 @@
 //! Holds the proved library to the reference: the stored sheets, entries, lists, inputs of the column form
-//! and of the forecast, then drawn ones.
+//! and of the forecast, and replays, then drawn ones.
 //!
 //! `reference/link` builds it. A sheet is run with any byte that says who is present. Of a run are
 //! compared number, place and counts, marks, register cells, and both buffers to their last number; of
@@ -8,14 +8,16 @@
 //! of a list of calls number, how many calls were written, and the buffer to its last number; of the
 //! column form, there and back, number and the output to its last byte; of the forecast number and
 //! place, and for the header and script of a sheet whose rows and length are not refused also with
-//! number and place of the library's own run. Lists of numbers are filled before with numbers that are
+//! number and place of the library's own run; of the replay number, cells, place and counts, and for the
+//! record of the library's own run also with number, column and counts of that run. Lists of numbers are filled before with numbers that are
 //! never written, so that a number too many, too few or left over is seen. Every byte can be written to
 //! an output of the column form, so it is filled with bytes that change from place to place. The lists
-//! for registers, marks and counts are at times too short or too long.
+//! for registers, marks, counts and a replay's cells are at times too short or too long.
 
 mod entries;
 mod forecasts;
 mod library;
+mod replays;
 mod words;
 
 use std::collections::BTreeMap;
@@ -30,10 +32,13 @@ use reference::columns;
 use reference::columns::drawn::turn_for;
 use reference::compare::forecasts::is_decided_by_head;
 use reference::compare::summed::{recovery, recovery_difference};
-use reference::compare::{Entered, Forecast, Imported, Lengths, Ran, Turned};
+use reference::compare::{Entered, Forecast, Imported, Lengths, Ran, Replayed, Turned};
 use reference::forecast::drawn::head_for;
 use reference::forecast::{self, head_of};
 use reference::present::everyone_of;
+use reference::replay;
+use reference::replay::drawn::replay_for;
+use reference::replay::recorded::Recorded;
 use reference::run_case;
 use reference::sheets::{self, sheet_for};
 use reference::table::{RECORD, REVEALED};
@@ -45,10 +50,12 @@ Compares the proved library with the reference: all that is stored, COUNT sheets
 and the indices FIRST, FIRST + 1, ... (FIRST is 0 if left out), each with a drawn set of present
 parties, permitted or not, and for each of them 5 calls of small entries (4 of share, recover, encode
 or decode, and one of sum), the import of a list of calls, an input turned to the column form or to
-the sheet, and the forecast of a drawn input and of the sheet's header and script. A sum's remainder
-is compared also with the secret that the library recovers from the same row, and the forecast of a
-sheet's header and script with the end of the library's run of the sheet, everyone being present and
-both buffers ample. The last line tells how many were compared and how many differ. Exits with 1 if
+the sheet, the forecast of a drawn input and of the sheet's header and script, a drawn replay, and
+the replay of the sheet's run by each of its parties. A sum's remainder is compared also with the
+secret that the library recovers from the same row, the forecast of a sheet's header and script with
+the end of the library's run of the sheet, everyone being present and both buffers ample, and the
+replays of the sheet's run with the columns of the library's run, with the drawn set if it is
+permitted. The last line tells how many were compared and how many differ. Exits with 1 if
 any does, with 2 if the arguments are wrong.
 
 Build it with bash reference/link, after rt staticlib jundrethol.";
@@ -65,6 +72,9 @@ const SHOWN: usize = 400;
 /// Apart from the sheet's own sequence, so that one does not decide the other.
 const LENGTHS_SEED: u64 = 0x5EED_0004;
 
+/// Apart from the replay's own sequence.
+const CELLS_SEED: u64 = 0x5EED_0016;
+
 /// How many there were of each number.
 type Numbers = BTreeMap<u32, u64>;
 
@@ -80,6 +90,9 @@ struct Tally {
     forecasts: Numbers,
     /// How many of them were compared with a run.
     against_runs: u64,
+    replays: Numbers,
+    /// How many of them were compared with a column of a run.
+    against_columns: u64,
     differing: usize,
 }
 
@@ -188,6 +201,52 @@ impl Tally {
         }
     }
 
+    /// The library's replay, after it is compared.
+    fn replay(&mut self, name: &str, case: &replay::case::Case, before: Replayed) -> Replayed {
+        let mut reference = before;
+        let mut library = reference.clone();
+        reference.by_reference(case);
+        replays::replay(&mut library, case);
+        *self.replays.entry(reference.number).or_default() += 1;
+        if let Some(difference) = reference.difference(&library) {
+            let party = case.party;
+            let head = &case.head[..case.head.len().min(SHOWN)];
+            let part = &case.part[..case.part.len().min(SHOWN)];
+            let record = &case.record[..case.record.len().min(SHOWN)];
+            let (length, numbers) = (case.part.len(), case.record.len());
+            self.differs(format!(
+                "{name}: {difference}\n  party {party} head {head:?}\n  \
+                 part of {length} bytes: {part:?}\n  record of {numbers} numbers: {record:?}"
+            ));
+        }
+        library
+    }
+
+    /// The replays of the library's run of the sheet by all its parties, if it is accepted, compared with the
+    /// run's columns too.
+    fn replays_of_sheet(&mut self, name: &str, sheet: &[u8], present: u8) {
+        let mut ran = Ran::before(RECORD, REVEALED, Lengths::WHOLE);
+        library::run(&mut ran, sheet, present);
+        let Some(mut recorded) = Recorded::of(sheet, present) else {
+            return;
+        };
+        let length = ran.record.len().min(recorded.record.len());
+        recorded.record.copy_from_slice(&ran.record[..length]);
+        for party in 1..=recorded.parts.len() {
+            let name = format!("{name} party {party}");
+            let replayed = self.replay(&name, &recorded.case(party), Replayed::before());
+            self.against_columns += 1;
+            if let Some(difference) = replayed.run_difference(party, &ran) {
+                let shown = &sheet[..sheet.len().min(SHOWN)];
+                let length = sheet.len();
+                self.differs(format!(
+                    "{name}: {difference}\n  present {present:08b}\n  \
+                     sheet of {length} bytes: {shown:?}"
+                ));
+            }
+        }
+    }
+
     fn differs(&mut self, lines: String) {
         if self.differing < LISTED {
             println!("{lines}");
@@ -199,6 +258,8 @@ impl Tally {
         for (place, case) in sheets::stored::all().iter().enumerate() {
             self.run(&format!("stored sheet {place}"), case, Lengths::WHOLE);
             self.forecast_of_sheet(&format!("head of stored sheet {place}"), &case.sheet);
+            let name = format!("replay of stored sheet {place}");
+            self.replays_of_sheet(&name, &case.sheet, case.present);
         }
         for (place, case) in cases::all().iter().enumerate() {
             self.entry(&format!("stored entry {place}"), case);
@@ -211,6 +272,9 @@ impl Tally {
         }
         for (place, case) in forecast::stored::all().iter().enumerate() {
             self.forecast(&format!("stored head {place}"), &case.head);
+        }
+        for (place, case) in replay::stored::all().iter().enumerate() {
+            self.replay(&format!("stored replay {place}"), case, Replayed::before());
         }
     }
 
@@ -228,6 +292,11 @@ impl Tally {
         let head = head_for(seed, index).head;
         self.forecast(&format!("head {seed} {index}"), &head);
         self.forecast_of_sheet(&format!("head of sheet {seed} {index}"), &case.sheet);
+        let before = Replayed::drawn_before(&mut Generator::at(seed ^ CELLS_SEED, index));
+        let replay = replay_for(seed, index);
+        self.replay(&format!("replay {seed} {index}"), &replay, before);
+        let name = format!("replay of sheet {seed} {index}");
+        self.replays_of_sheet(&name, &case.sheet, case.present);
     }
 
     fn tell(&self) {
@@ -237,19 +306,21 @@ impl Tally {
         println!("lists by number: {}", told(&self.imports));
         println!("turned by number: {}", told(&self.turns));
         println!("forecasts by number: {}", told(&self.forecasts));
+        println!("replays by number: {}", told(&self.replays));
         let numbers = [
             &self.runs,
             &self.sums,
             &self.imports,
             &self.turns,
             &self.forecasts,
+            &self.replays,
         ];
-        let [runs, sums, imports, turns, forecasts] = numbers.map(total);
+        let [runs, sums, imports, turns, forecasts, replays] = numbers.map(total);
         println!(
             "{runs} runs of sheets, {} calls of small entries, {sums} of them sums, {imports} imports \
-             of lists, {turns} inputs turned and {forecasts} forecasts, {} of them against a run, \
-             compared, {} differ",
-            self.entries, self.against_runs, self.differing
+             of lists, {turns} inputs turned, {forecasts} forecasts, {} of them against a run, and \
+             {replays} replays, {} of them against a column of a run, compared, {} differ",
+            self.entries, self.against_runs, self.against_columns, self.differing
         );
     }
 }

@@ -1,4 +1,5 @@
-//! Rounds in which the proved library and the reference do the same, in turn, and their times.
+//! Rounds in which the proved library and the reference, or another work of the library, do a job in turn, and
+//! their times.
 
 use std::time::{Duration, Instant};
 
@@ -7,6 +8,9 @@ const SPAN: Duration = Duration::from_micros(500);
 
 /// A job, and the lists that each side writes to.
 pub trait Sides: Sized {
+    /// What the second side is called.
+    const SECOND: &'static str = "reference";
+
     /// Lets either side do the job once, and says where they differ.
     fn agree(&mut self) -> Result<(), String>;
 
@@ -66,7 +70,7 @@ impl Times {
 }
 
 /// Prints the job's lines, or says where the sides differ.
-pub fn measure(name: &str, mut sides: impl Sides, rounds: usize) -> Result<(), String> {
+pub fn measure<S: Sides>(name: &str, mut sides: S, rounds: usize) -> Result<(), String> {
     sides
         .agree()
         .map_err(|message| format!("{name}: {message}"))?;
@@ -74,18 +78,22 @@ pub fn measure(name: &str, mut sides: impl Sides, rounds: usize) -> Result<(), S
     let ratios = library.iter().zip(&reference).map(|(one, two)| one / two);
     let paired = Times::of(ratios.collect()).median;
     let (library, reference) = (Times::of(library), Times::of(reference));
-    print_times(name, "median", library.median, reference.median);
-    print_times(name, "best", library.best, reference.best);
+    print_times(
+        (name, "median"),
+        library.median,
+        (S::SECOND, reference.median),
+    );
+    print_times((name, "best"), library.best, (S::SECOND, reference.best));
     println!("{name:<28} median of the rounds' ratios {paired:.3}");
     Ok(())
 }
 
 /// The times are in nanoseconds.
-fn print_times(name: &str, which: &str, library: f64, reference: f64) {
-    let ratio = library / reference;
-    let (library, reference) = (library / 1000.0, reference / 1000.0);
+fn print_times((name, which): (&str, &str), library: f64, (second, other): (&str, f64)) {
+    let ratio = library / other;
+    let (library, other) = (library / 1000.0, other / 1000.0);
     println!(
-        "{name:<28} {which:<6}  library {library:>10.3} us  reference {reference:>10.3} us  \
+        "{name:<28} {which:<6}  library {library:>10.3} us  {second:<9} {other:>10.3} us  \
          ratio {ratio:.3}"
     );
 }

@@ -1,10 +1,12 @@
 //! What a call leaves in everything that its caller lends, and where two calls differ.
 
 pub mod forecasts;
+mod replayed;
 pub mod summed;
 mod turned;
 
 pub use forecasts::Forecast;
+pub use replayed::Replayed;
 pub use turned::Turned;
 
 use std::fmt::Display;
@@ -41,16 +43,21 @@ impl Lengths {
         if generator.below(4) > 0 {
             return Lengths::WHOLE;
         }
-        let mut length = |whole: usize| match generator.below(4) {
-            0 => generator.below(whole as u32) as usize,
-            1 => whole + 1 + generator.below(9) as usize,
-            _ => whole,
-        };
+        let mut length = |whole| drawn_length(generator, whole);
         Lengths {
             registers: length(CELLS),
             marks: length(MARKS),
             counts: length(COUNTS),
         }
+    }
+}
+
+/// Mostly the whole list, else too short or longer.
+fn drawn_length(generator: &mut Generator, whole: usize) -> usize {
+    match generator.below(4) {
+        0 => generator.below(whole as u32) as usize,
+        1 => whole + 1 + generator.below(9) as usize,
+        _ => whole,
     }
 }
 

@@ -6,7 +6,7 @@ mod course;
 mod draft;
 pub mod drawn;
 pub mod examples;
-mod fault;
+pub(crate) mod fault;
 pub mod gate;
 pub mod held;
 pub mod printed;

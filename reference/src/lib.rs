@@ -1,6 +1,7 @@
 //! Computes directly from the definitions what the proved library computes: sharing, recovery, the
 //! sum of which the secret is the remainder, signed coding, the steps, the run of a whole sheet, the
-//! import of a list of calls, the column form of a sheet, and the forecast of a run.
+//! import of a list of calls, the column form of a sheet, the forecast of a run, and the replay of one
+//! party's column.
 
 pub mod calls;
 pub mod case;
@@ -15,6 +16,7 @@ pub mod model_cases;
 pub mod opening;
 pub mod present;
 pub mod refusal;
+pub mod replay;
 pub mod row;
 pub mod run;
 pub mod run_case;

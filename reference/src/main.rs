@@ -5,7 +5,8 @@ use std::io::{self, Read, Write};
 use std::process::ExitCode;
 
 use reference::{
-    calls, case, cases, columns, forecast, line, model_cases, run_case, sheets, steps, table,
+    calls, case, cases, columns, forecast, line, model_cases, replay, run_case, sheets, steps,
+    table,
 };
 
 const USAGE: &str = "usage: reference WORD [NAME]    (reference --help says what each word does)";
@@ -28,6 +29,8 @@ column-cases      writes the stored inputs of the column form, each with its dir
 column-answers    reads such inputs and writes all that turning each leaves
 forecast-cases    writes the stored inputs of the forecast, mostly headers with their scripts
 forecast-answers  reads such inputs and writes number and place of each
+replay-cases      writes the stored replays: party, header with script, the party's part, and a record
+replay-answers    reads such replays and writes end, revealed values and cells of each
 model-cases NAME  writes one of the model's tables of cases; the names are TABLES
 table             reads a sheet and writes the lines of its run
 calls             reads a list of calls and writes the seconds of each, and the end of the import
@@ -66,6 +69,8 @@ fn main() -> ExitCode {
             write_out(&all_bytes(&forecast::stored::all(), |case| case.to_bytes()))
         }
         ["forecast-answers"] => forecast_answers(),
+        ["replay-cases"] => write_out(&all_bytes(&replay::stored::all(), |case| case.to_bytes())),
+        ["replay-answers"] => replay_answers(),
         ["model-cases", name] => model_table(name),
         ["table"] => read_in().and_then(|sheet| write_out(table::lines(&sheet).as_bytes())),
         ["calls"] => read_in().and_then(|list| write_out(calls::case::printed(&list).as_bytes())),
@@ -160,6 +165,13 @@ fn column_answers() -> Result<(), String> {
 fn forecast_answers() -> Result<(), String> {
     let cases = forecast::case::read_all(&read_in()?)?;
     let lines: String = cases.iter().map(forecast::case::line).collect();
+    write_out(lines.as_bytes())
+}
+
+/// Writes nothing unless every case can be read.
+fn replay_answers() -> Result<(), String> {
+    let cases = replay::case::read_all(&read_in()?)?;
+    let lines: String = cases.iter().map(replay::case::lines).collect();
     write_out(lines.as_bytes())
 }
 

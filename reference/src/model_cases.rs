@@ -6,9 +6,11 @@ use crate::cases::held as calls;
 use crate::columns::{held as turns, Way};
 use crate::compare::Entered;
 use crate::forecast::{forecast, held as heads};
+use crate::replay::{case::Case as Replay, held as replays, Answer};
+use crate::sheet::header;
 use crate::sheets::held::{self as sheets, Held, Left};
 
-pub const NAMES: [&str; 9] = [
+pub const NAMES: [&str; 10] = [
     "SheetCases",
     "ScriptCases",
     "RunCases",
@@ -18,6 +20,7 @@ pub const NAMES: [&str; 9] = [
     "CallCases",
     "ColumnCases",
     "ForecastCases",
+    "ReplayCases",
 ];
 
 /// No line of a table is longer, but for a long comment.
@@ -72,6 +75,7 @@ pub fn text(name: &str) -> Option<String> {
         )),
         "ColumnCases" => Some(column_table()),
         "ForecastCases" => Some(forecast_table()),
+        "ReplayCases" => Some(replay_table()),
         _ => None,
     }
 }
@@ -89,6 +93,14 @@ fn forecast_table() -> String {
         "Request 6, \"Will this deal last?\": short headers with their scripts, and the number and the place that are forecast.",
         ("ForecastCase", "forecastCases"),
         heads::all().iter().map(forecast_row).collect(),
+    )
+}
+
+fn replay_table() -> String {
+    file(
+        "Request 8, \"A firm replays its own column\": small replays, and the number, place, counts and cells that they leave.",
+        ("Case", "replayCases"),
+        replays::all().iter().map(replay_row).collect(),
     )
 }
 
@@ -115,6 +127,9 @@ fn file(subject: &str, (kind, name): (&str, &str), rows: Vec<Row>) -> String {
     if has_word(&code, "from") {
         text += "use Rattle.algebra.specs.Lists.{from}\n";
     }
+    if has_word(&code, "shareBytes") {
+        text += "use Rattle.model.specs.Sheet.{shareBytes}\n";
+    }
     let forms = used(&[
         "ran",
         "ranBy",
@@ -130,6 +145,7 @@ fn file(subject: &str, (kind, name): (&str, &str), rows: Vec<Row>) -> String {
         "asColumns",
         "asSheet",
         "forecastOf",
+        "replayOf",
     ]);
     text += &format!("use Rattle.model.specs.CaseForms.{{{kind}{forms}}}\n\n");
     text + &format!("unfoldable pub {name} : List {kind}\n{name} =\n{body}    ∷ []\n")
@@ -335,6 +351,53 @@ fn forecast_row(held: &heads::Held) -> Row {
     (held.says.clone(), row)
 }
 
+/// The party, header, script, part and record; number, place and counts, and each cell that is not 0.
+fn replay_row(held: &replays::Held) -> Row {
+    let Replay {
+        party,
+        head,
+        part,
+        record,
+    } = &held.case;
+    let (header, script) = head.split_at(head.len().min(header::BYTES));
+    let (header, script) = (list(header), list(script));
+    let (part, record) = (part_of(part), list(record));
+    let row = vec![
+        format!("replayOf {party} {header} {script}"),
+        format!("{part} {record}"),
+        replayed(&held.case.answer()),
+    ];
+    (held.says.clone(), row)
+}
+
+/// By its shares, unless it is no list of whole ones.
+fn part_of(part: &[u8]) -> String {
+    let word = |four: &[u8]| u32::from_le_bytes([four[0], four[1], four[2], four[3]]);
+    if part.is_empty() || part.len() % 4 > 0 {
+        return list(part);
+    }
+    let shares: Vec<u32> = part.chunks_exact(4).map(word).collect();
+    format!("(shareBytes {})", list(&shares))
+}
+
+/// Number, place and counts; the register and the share of each cell that is not 0.
+fn replayed(answer: &Answer) -> String {
+    let counts = &answer.counts;
+    let end = [
+        answer.number as usize,
+        answer.place,
+        counts.inputs,
+        counts.masks,
+        counts.triples,
+        counts.openings,
+        counts.revealed,
+    ];
+    let cells = (0..).zip(answer.cells).filter(|&(_, cell)| cell != 0);
+    let cells = cells.map(|(register, cell)| list(&[register, cell]));
+    let lists: Vec<String> = [list(&end)].into_iter().chain(cells).collect();
+    format!("({} ∷ [])", lists.join(" ∷ "))
+}
+
 /// A long end that is as it was before is counted.
 fn output(numbers: &[u16]) -> String {
     let before: Vec<u16> = (turns::BEFORE..).take(numbers.len()).collect();
@@ -483,5 +546,12 @@ mod tests {
         assert!(text("ColumnCases").unwrap().contains(row));
         let row = "    -- 1: no byte\n    ∷ forecastOf [] 1 0\n";
         assert!(text("ForecastCases").unwrap().contains(row));
+        let row = "\
+    -- the paper's printed run, party 2
+    ∷ replayOf 2 (0 ∷ 3 ∷ 1 ∷ 2 ∷ 0 ∷ 0 ∷ 0 ∷ 1 ∷ 0 ∷ 11 ∷ 0 ∷ []) (1 ∷ 0 ∷ 1 ∷ 1 ∷ 6 ∷ 2 ∷ 0 ∷ 1 ∷ 12 ∷ 2 ∷ 0 ∷ [])
+    (shareBytes (9 ∷ 11 ∷ 3 ∷ 8 ∷ 12 ∷ [])) (5 ∷ 6 ∷ 7 ∷ 2 ∷ 3 ∷ 4 ∷ 7 ∷ 12 ∷ 4 ∷ [])
+    ((0 ∷ 10 ∷ 2 ∷ 0 ∷ 1 ∷ 3 ∷ 1 ∷ []) ∷ (0 ∷ 9 ∷ []) ∷ (1 ∷ 11 ∷ []) ∷ (2 ∷ 12 ∷ []) ∷ [])
+";
+        assert!(text("ReplayCases").unwrap().contains(row));
     }
 }

@@ -1,4 +1,4 @@
-//! The numbers that the entries, the run, the import, the column form and the forecast answer with.
+//! The numbers that the entries, the run, the import, the column form, the forecast and the replay answer with.
 
 /// The arguments are accepted; the script ran to its END.
 pub const NONE: u32 = 0;
@@ -6,9 +6,10 @@ pub const NONE: u32 = 0;
 pub const HEADER: u32 = 1;
 /// The field number is not in the table.
 pub const FIELD: u32 = 2;
-/// The number of parties or the threshold is outside its range.
+/// The number of parties, the threshold or a replay's party number is outside its range.
 pub const PARTIES: u32 = 3;
-/// A list, a sheet or the input of a forecast has the wrong length, or a count is over its limit.
+/// A list, a sheet, the input of a forecast or a party's part has the wrong length, or a count is over its
+/// limit.
 pub const LENGTH: u32 = 4;
 /// A secret, coefficient, share or field value is not below the modulus.
 pub const VALUE: u32 = 5;
@@ -48,3 +49,11 @@ pub const LINE: u32 = 31;
 pub const TIME: u32 = 32;
 /// The buffer for the seconds is full.
 pub const SECONDS_FULL: u32 = 33;
+
+/// The party's own share is in the record, and is another.
+pub const OWN_SHARE: u32 = 41;
+/// Of an opening a number is above p, too few shares are present, or those present are not on one polynomial
+/// of degree at most t.
+pub const OPENING: u32 = 42;
+/// The record has no more whole opening.
+pub const RECORD_SHORT: u32 = 43;

@@ -1,7 +1,7 @@
 //! Sheets to run: drawn from a seed and an index, stored, for the gate, and for measuring time.
 
 pub mod bench;
-mod draft;
+pub(crate) mod draft;
 mod drawer;
 pub mod examples;
 mod fault;

@@ -32,9 +32,15 @@ pub fn is_input_refused(answer: &Answer) -> bool {
 }
 
 pub fn end_line(answer: &Answer) -> String {
+    let counts = [answer.inputs, answer.masks, answer.triples, answer.openings];
+    end_line_of(answer.number, answer.place, counts)
+}
+
+/// The counts are inputs, masks, triples and openings.
+pub fn end_line_of(number: u32, place: usize, counts: [usize; 4]) -> String {
+    let [inputs, masks, triples, openings] = counts;
     format!(
-        "end {} at {} inputs {} masks {} triples {} openings {}\n",
-        answer.number, answer.place, answer.inputs, answer.masks, answer.triples, answer.openings
+        "end {number} at {place} inputs {inputs} masks {masks} triples {triples} openings {openings}\n"
     )
 }
 

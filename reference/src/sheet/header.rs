@@ -66,10 +66,19 @@ impl Header {
         BYTES + self.script
     }
 
+    /// The rows of the sheet, of which each party has a share.
+    fn rows(&self) -> usize {
+        self.inputs + self.masks * self.field.bits() as usize + 3 * self.triples
+    }
+
+    /// The bytes of a party's part of the column form.
+    pub fn part_length(&self) -> usize {
+        self.rows() * 4
+    }
+
     /// The bytes of the whole sheet.
     pub fn implied_length(&self) -> usize {
-        let rows = self.inputs + self.masks * self.field.bits() as usize + 3 * self.triples;
-        self.head_length() + rows * 4 * self.parties
+        self.head_length() + self.part_length() * self.parties
     }
 }
 
