@@ -74,5 +74,6 @@ pub mod Filled
 pub mod Foreseeing
 pub mod Forecasts
 pub mod RecordOpenings
+pub mod Windows
 pub mod Laws
 pub mod Cases
