@@ -74,6 +74,7 @@ pub mod Filled
 pub mod Foreseeing
 pub mod Forecasts
 pub mod RecordOpenings
+pub mod Windows
 pub mod OneColumn
 pub mod RecordedRows
 pub mod FromRecord

@@ -101,6 +101,9 @@ module _ (p n t : ℕ) (x : List ℕ) where
           has z (here q) h = here q
           has z (there m) h = there (R .those-in z m h)
 
+  pub present-rises : (js : List ℕ) → Rising js → Rising (presentAt p n t x js)
+  present-rises js = those js .rises
+
   -- of parties 1 to n
   pub present-party : (z : ℕ) → In z (presentOf p n t x) → (1 ≤ z) × (z ≤ n)
   present-party z m = let l = in-from 1 n (those (from 1 n) .in-those z m .0) in (l .0, omega arith)
@@ -112,7 +115,7 @@ module _ (p n t : ℕ) (x : List ℕ) where
   there-present z a b e = those (from 1 n) .those-in z (from-in 1 n z a (omega arith)) e
 
   pub present-rising : Rising (presentOf p n t x)
-  present-rising = those (from 1 n) .rises (rising-from 1 n)
+  present-rising = present-rises (from 1 n) (rising-from 1 n)
 
   pub present-distinct : Distinct (presentOf p n t x)
   present-distinct = rising-distinct (presentOf p n t x) present-rising

@@ -61,7 +61,7 @@ module _ (b j : ℕ) where
   pub shifted : b / 2 ^ j / 2 ≡ b / 2 ^ suc j
   shifted = rw (div-div-eq-div-mul, pow-suc 2 j)
 
-below-set : {p : ℕ} (l : List ℕ) (i : ℕ) {v : ℕ} → Below p l → v < p → Below p (set l i v)
+pub below-set : {p : ℕ} (l : List ℕ) (i : ℕ) {v : ℕ} → Below p l → v < p → Below p (set l i v)
 below-set [] i B h = B
 below-set (x ∷ xs) zero B h = below-cons h (below-tail B)
 below-set (x ∷ xs) (suc i) B h = below-cons (below-head B) (below-set xs i (below-tail B) h)

@@ -1,0 +1,4 @@
+pub mod Gathering
+pub mod Sets
+pub mod Windowing
+pub mod Values
