@@ -11,11 +11,12 @@ use Rattle.model.specs.Steps.{Row, lessMask, plus, minus, constant, spelled, un
 use Rattle.model.specs.Trees as Trees
 use Rattle.sharing.specs.Settings.{settingOf}
 use Rattle.sharing.specs.declared.setting.Setting.{Setting}
+use Rattle.local.specs.declared.remainder.Publics.{Publics}
+use Rattle.local.specs.Unmasking.{publics, MaskBits, unmaskedBy}
 use Rattle.steps.specs.declared.places.Places.{Places}
-use Rattle.steps.specs.declared.remainder.Publics.{Publics}
 use Rattle.steps.specs.Places.{pastTriples, pastMask, Bits, Room}
 use Rattle.steps.specs.Promises.{Opens, StepLeaves, Works, MaskedLeaves}
-use Rattle.steps.specs.Remainders.{publics, MaskBits, fTriples, unmaskedBy, afterU1, afterF, afterC, fromX}
+use Rattle.steps.specs.Remainders.{fTriples, afterU1, afterF, afterC, fromX}
 use Rattle.steps.proofs.Leaving.{log-then, done-leaves, product-then, comparison-then}
 use Rattle.steps.proofs.Products.{one-opened}
 

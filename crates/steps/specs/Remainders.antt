@@ -1,30 +1,14 @@
--- MOD from the mask on: its public numbers, and the trees of what is left to do.
+-- MOD from the mask on: the trees of what is left to do.
 -- Assumes nothing.
 use mathlib.Core.List.{List}
-use Prim.Native.Nat.{ℕ, _+_, _-_, _*_, _%_, _^_, _≤_, _<_}
-use lib.ListN.{length, take}
-use Rattle.algebra.specs.Ring.{sub}
-use Rattle.model.specs.Steps.{Row, rowOps, plus, minus, times, constant, spelled}
+use Prim.Native.Nat.{ℕ, _+_, _-_}
+use lib.ListN.{take}
+use Rattle.model.specs.Steps.{Row, rowOps, plus, minus}
 use Rattle.model.specs.Trees.{Tree, done, multiply, mask, comparison}
-use Rattle.sharing.specs.Settings.{settingOf, Fitting}
+use Rattle.sharing.specs.Settings.{settingOf}
 use Rattle.sharing.specs.declared.setting.Setting.{Setting}
-use Rattle.steps.specs.declared.remainder.Publics.{Publics}
-
--- 2^m, "C mod 2^m", "(C + p) mod 2^m", and the last less the one before it, modulo p
-abbrev pub publics : ℕ → ℕ → ℕ → Publics
-publics p m C =
-    let c0 = C % 2 ^ m in
-    let c1 = (C + p) % 2 ^ m in
-    record { m = m; power = 2 ^ m; c0 = c0; c1 = c1; step = sub p c1 c0 }
-
--- The cells have the ℓ bits of a mask, of which m, at least one, are the low ones; and 2^m is a number below p.
-pub record MaskBits (S : Setting) (m : ℕ) (cells : List ℕ) : Type 0 where
-  pub fitting : Fitting S
-  pub least : 1 ≤ m
-  pub most : m < 30
-  pub power : 2 ^ m < S .p
-  pub within : m ≤ S .l
-  pub there : 7 * S .l ≤ length cells
+use Rattle.local.specs.declared.remainder.Publics.{Publics}
+use Rattle.local.specs.Unmasking.{publics, unmaskedBy}
 
 -- the triples of u1 and g, and of u0 as well
 abbrev pub u0Triples : ℕ → ℕ
@@ -35,13 +19,9 @@ fTriples m = (m - 1) + u0Triples m
 
 -- x has the public numbers, and low the low bits of the mask
 module _ (S : Setting) (x : Publics) (low : List Row) where
-  -- "The result is C mod 2^m + f·((C + p) mod 2^m − C mod 2^m) − r mod 2^m + 2^m·u"
-  abbrev pub unmaskedBy : Row → Row → Row
-  unmaskedBy f u = let P = settingOf S in plus P (minus P (plus P (constant P (x .c0)) (times P (x .step) f)) (spelled P low)) (times P (x .power) u)
-
   -- "g = f times (u1 − u0) by MUL; u = u0 + g", and the result
   abbrev pub afterU1 : Row → Row → Row → Tree Row Row
-  afterU1 f u0 u1 = multiply f (minus (settingOf S) u1 u0) λ g. done (unmaskedBy f (plus (settingOf S) u0 g))
+  afterU1 f u0 u1 = multiply f (minus (settingOf S) u1 u0) λ g. done (unmaskedBy S x low f (plus (settingOf S) u0 g))
 
   -- "u0 is BITLT of C mod 2^m, and u1 of (C + p) mod 2^m, each against the low m bits of r", and what follows
   abbrev pub afterU0 : Row → Row → Tree Row Row

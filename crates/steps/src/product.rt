@@ -1,5 +1,4 @@
 // MUL.
-ghost use mathlib.Core.Path.{_≡_};
 ghost use Prim.Native.Nat.{_+_, _≤_};
 ghost use lib.ListN.{length};
 ghost use Rattle.model.specs.Steps as Steps;
@@ -8,7 +7,7 @@ ghost use Rattle.steps.specs.Places.{Room};
 ghost use Rattle.steps.specs.Promises.{Opens, StepLeaves};
 use crate::opening;
 use crate::places::Places;
-use field::arithmetic;
+use local::product::beaver;
 use secret::Row;
 use sharing::rows;
 use sharing::setting::Setting;
@@ -19,24 +18,6 @@ pub fn open_difference(setting: Setting, at: usize, log: &mut [u32], x: Row, a: 
     ensures { λ r. ⌜ Opens setting at (Steps.minus (settingOf setting) (x .shares) (a .shares)) r (now (log .entry)) (now (log .exit)) ⌝ }
 {
     opening::open_at(setting, at, log, rows::sub_rows(setting, x, a))
-}
-
-// c + a1·b + b1·a + a1·b1, in one pass: every product of a comparison goes through here.
-pub fn beaver(setting: Setting, a1: u32, b1: u32, a: Row, b: Row, c: Row) -> Row
-    requires { ⌜ Fitting setting ⌝ }
-    ensures { λ r. ⌜ r .shares ≡ Steps.beaver (settingOf setting) a1 b1 (record { a = a .shares; b = b .shares; c = c .shares }) ⌝ }
-{
-    let p = setting.p;
-    let both = arithmetic::mul(p, a1, b1);
-    let mut shares = [0u32; 7];
-    let mut j = 0;
-    while j < setting.n {
-        let x = arithmetic::add(p, c.shares[j], arithmetic::mul(p, a1, b.shares[j]));
-        let y = arithmetic::add(p, x, arithmetic::mul(p, b1, a.shares[j]));
-        shares[j] = arithmetic::add(p, y, both);
-        j += 1;
-    }
-    Row { shares }
 }
 
 // MUL: "takes the next triple, opens a1 = left − a, then b1 = right − b, leaves c + a1·b + b1·a + a1·b1".

@@ -1,7 +1,7 @@
 -- `cut::cut_row` meets its contract: a remainder between two maps.
 -- Assumes nothing.
 use Rattle.cuts.proofs.Cuts.{cut-leaves}
-use Rattle.steps.proofs.Powers.{power-below}
+use Rattle.local.proofs.Powers.{power-below}
 use borrow.Author.Needs.{needs}
 use native.Mathlib.Omega.{arith}
 use Rattle.cuts.proofs.cut.cut_row.Statement.{statement}

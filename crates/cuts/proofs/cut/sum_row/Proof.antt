@@ -1,6 +1,6 @@
 -- `cut::sum_row` meets its contract: 2^m is below p, so it is its own residue.
 -- Assumes nothing.
-use Rattle.steps.proofs.Powers.{power-is, power-above}
+use Rattle.local.proofs.Powers.{power-is, power-above}
 use borrow.Author.Needs.{needs}
 use native.Mathlib.Omega.{arith}
 use Rattle.cuts.proofs.cut.sum_row.Statement.{statement}

@@ -1,6 +1,6 @@
 -- `remainder::remainder` meets its contract: the mask's rows as cells, and what follows.
 -- Assumes nothing.
-use Rattle.steps.proofs.Powers.{power-below}
+use Rattle.local.proofs.Powers.{power-below}
 use Rattle.steps.proofs.Remainders.{remainder-leaves}
 use borrow.Author.Needs.{needs}
 use native.Mathlib.Omega.{arith}

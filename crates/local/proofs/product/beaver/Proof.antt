@@ -2,10 +2,10 @@
 -- Assumes nothing.
 use Prim.Native.Nat.{_-_}
 use Rattle.algebra.proofs.Rows.{Filling, filling-start, filling-more}
-use Rattle.steps.proofs.Products.{shareLeft, beaver-end}
+use Rattle.local.proofs.Beaver.{shareLeft, beaver-end}
 use borrow.Author.Needs.{needs}
-use Rattle.steps.proofs.product.beaver.Statement.{statement}
-use Rattle.steps.proofs.product.beaver.Tie as tie
+use Rattle.local.proofs.product.beaver.Statement.{statement}
+use Rattle.local.proofs.product.beaver.Tie as tie
 
 abbrev Inv-loop : tie.InvT-loop
 Inv-loop setting a1 b1 a b c p both shares₀ j₀ shares j = Filling (setting .n) (shareLeft (setting .p) a1 b1 both (a .shares) (b .shares) (c .shares)) j shares

@@ -1,8 +1,8 @@
 -- `comparison::next_row` meets its contract: case by case.
 -- Assumes nothing.
 use borrow.Author.Needs.{needs}
-use Rattle.steps.proofs.comparison.next_row.Statement.{statement}
-use Rattle.steps.proofs.comparison.next_row.Tie as tie
+use Rattle.local.proofs.comparison.next_row.Statement.{statement}
+use Rattle.local.proofs.comparison.next_row.Tie as tie
 
 pub next-row-spec : {M : Type 1} → statement M
 next-row-spec =

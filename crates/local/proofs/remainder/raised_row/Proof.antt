@@ -1,11 +1,11 @@
 -- `remainder::raised_row` meets its contract: 2^(k−1) is below p, so it is its own residue.
 -- Assumes nothing.
 use Prim.Native.Nat.{_-_}
-use Rattle.steps.proofs.Powers.{power-below, power-is}
+use Rattle.local.proofs.Powers.{power-below, power-is}
 use borrow.Author.Needs.{needs}
 use native.Mathlib.Omega.{arith}
-use Rattle.steps.proofs.remainder.raised_row.Statement.{statement}
-use Rattle.steps.proofs.remainder.raised_row.Tie as tie
+use Rattle.local.proofs.remainder.raised_row.Statement.{statement}
+use Rattle.local.proofs.remainder.raised_row.Tie as tie
 
 returns : tie.Need-returns
 returns c =

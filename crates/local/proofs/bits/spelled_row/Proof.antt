@@ -1,10 +1,10 @@
 -- `bits::spelled_row` meets its contract: the bits from k on are spelled.
 -- Assumes nothing.
 use Rattle.sharing.specs.Settings.{settingOf}
-use Rattle.steps.proofs.Spelling.{Spelling, spelling-start, spelling-more, spelling-end}
+use Rattle.local.proofs.Spelling.{Spelling, spelling-start, spelling-more, spelling-end}
 use borrow.Author.Needs.{needs}
-use Rattle.steps.proofs.bits.spelled_row.Statement.{statement}
-use Rattle.steps.proofs.bits.spelled_row.Tie as tie
+use Rattle.local.proofs.bits.spelled_row.Statement.{statement}
+use Rattle.local.proofs.bits.spelled_row.Tie as tie
 
 abbrev Inv-loop : tie.InvT-loop
 Inv-loop setting w cells r₀ k₀ r k = Spelling (settingOf setting) w cells k (r .shares)

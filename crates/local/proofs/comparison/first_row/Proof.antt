@@ -1,8 +1,8 @@
 -- `comparison::first_row` meets its contract: case by case.
 -- Assumes nothing.
 use borrow.Author.Needs.{needs}
-use Rattle.steps.proofs.comparison.first_row.Statement.{statement}
-use Rattle.steps.proofs.comparison.first_row.Tie as tie
+use Rattle.local.proofs.comparison.first_row.Statement.{statement}
+use Rattle.local.proofs.comparison.first_row.Tie as tie
 
 pub first-row-spec : {M : Type 1} → statement M
 first-row-spec =

@@ -1,9 +1,9 @@
 -- `remainder::public_numbers` meets its contract: 2^m is below p, so it is its own residue.
 -- Assumes nothing.
-use Rattle.steps.proofs.Powers.{power-is, power-above}
+use Rattle.local.proofs.Powers.{power-is, power-above}
 use borrow.Author.Needs.{needs}
-use Rattle.steps.proofs.remainder.public_numbers.Statement.{statement}
-use Rattle.steps.proofs.remainder.public_numbers.Tie as tie
+use Rattle.local.proofs.remainder.public_numbers.Statement.{statement}
+use Rattle.local.proofs.remainder.public_numbers.Tie as tie
 
 returns : tie.Need-returns
 returns c =

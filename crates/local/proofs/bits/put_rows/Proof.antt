@@ -1,11 +1,11 @@
 -- `bits::put_rows` meets its contract: after k turns the first k rows of the cells are the sheet's.
 -- Assumes nothing.
 use Prim.Native.Nat.{_-_}
-use Rattle.steps.proofs.Putting.{Putting, putting-start, putting-fits, putting-more, putting-end, putting-past}
+use Rattle.local.proofs.Putting.{Putting, putting-start, putting-fits, putting-more, putting-end, putting-past}
 use borrow.Author.Needs.{needs}
 use native.Mathlib.Omega.{arith}
-use Rattle.steps.proofs.bits.put_rows.Statement.{statement}
-use Rattle.steps.proofs.bits.put_rows.Tie as tie
+use Rattle.local.proofs.bits.put_rows.Statement.{statement}
+use Rattle.local.proofs.bits.put_rows.Tie as tie
 
 abbrev Inv-loop : tie.InvT-loop
 Inv-loop n s i count cells₀ from₀ k₀ cells from k = Putting s n i count cells₀ cells from k

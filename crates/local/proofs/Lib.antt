@@ -1,0 +1,4 @@
+pub mod Powers
+pub mod Beaver
+pub mod Putting
+pub mod Spelling
