@@ -1,0 +1,5 @@
+pub mod Opening
+pub mod Coming
+pub mod Products
+pub mod Comparing
+pub mod Remainders
