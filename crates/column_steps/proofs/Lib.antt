@@ -3,3 +3,4 @@ pub mod Coming
 pub mod Products
 pub mod Comparing
 pub mod Remainders
+pub mod Cutting
