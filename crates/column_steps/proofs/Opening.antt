@@ -55,7 +55,7 @@ module _ {c : Column} (W : Working c) (log : List ℕ) (read : ℕ) (x : Row) wh
 
 -- an opening that is there has a place that is a number of the code
 pub counts-on : {c : Column} (log : List ℕ) (read : ℕ) → Working c → c .reader .n * read ≤ length log → length log < 2 ^ 64 → read < 2 ^ 64
-counts-on {c} log read W h l = 
-    let k : 1 ≤ c .reader .n = omega (arith, W .parties .least) in
+counts-on {c} log read W h l =
+    let k : 1 ≤ c .reader .n = omega (arith, W .reading .parties .least) in
     let m : 1 * read ≤ c .reader .n * read = mul-le-mul-right read k in
     omega arith

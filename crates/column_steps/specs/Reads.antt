@@ -4,7 +4,6 @@ use mathlib.Core.Path.{_≡_}
 use mathlib.Core.List.{List}
 use Prim.Native.Nat.{ℕ, _+_, _*_, _≤_, _<_}
 use lib.ListN.{length, drop}
-use Rattle.model.specs.Fields.{Parties}
 use Rattle.model.specs.Presence.{everyone}
 use Rattle.model.specs.Refusing.{given}
 use Rattle.model.specs.Deal.{Setting, Row, Deal}
@@ -15,7 +14,7 @@ use Rattle.model.specs.Sheet.{masksFrom, triplesFrom}
 use Rattle.model.specs.Replay.{Read, stopped, oneColumn, fromRecord, byRecord}
 use Rattle.sharing.specs.Settings.{settingOf, Fitting}
 use Rattle.from_record.specs.declared.Opened.{Opened}
-use Rattle.from_record.specs.Readers.{Reading}
+use Rattle.from_record.specs.Reading.{Reading}
 use Rattle.column_steps.specs.declared.column.Column.{Column}
 use Rattle.column_steps.specs.declared.column.Ahead.{Ahead}
 use Rattle.column_steps.specs.declared.column.Outcome.{Outcome}
@@ -31,7 +30,6 @@ ownOf c = oneColumn (tableOf c)
 pub record Working (c : Column) : Type 0 where
   pub fitting : Fitting (c .setting)
   pub own : settingOf (c .setting) ≡ ownOf c
-  pub parties : Parties (c .reader .n) (c .reader .t)
   pub same-p : c .reader .p ≡ c .setting .p
   pub reading : Reading (c .reader)
 

@@ -9,14 +9,7 @@ use secret::Row;
 use sharing::rows;
 
 // "takes the next triple, opens a1 = left − a, then b1 = right − b, leaves c + a1·b + b1·a + a1·b1".
-pub fn product(
-    c: Column,
-    at: Ahead,
-    part: &[u8],
-    log: &[u32],
-    left: Row,
-    right: Row,
-) -> Outcome
+pub fn product(c: Column, at: Ahead, part: &[u8], log: &[u32], left: Row, right: Row) -> Outcome
     requires { ⌜ Working c × Standing c (now part) (now log) at 0 1 ⌝ }
     ensures { λ r. ⌜ Comes c (now (part .entry)) (now (log .entry)) at (past at 1) 0 1 (multiply (left .shares) (right .shares)) r ⌝ }
 {

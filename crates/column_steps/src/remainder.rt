@@ -141,15 +141,7 @@ fn from_mask(
 }
 
 // "MOD takes the next mask r", and what follows.
-pub fn remainder(
-    c: Column,
-    at: Ahead,
-    part: &[u8],
-    log: &[u32],
-    k: u32,
-    m: u32,
-    a: Row,
-) -> Outcome
+pub fn remainder(c: Column, at: Ahead, part: &[u8], log: &[u32], k: u32, m: u32, a: Row) -> Outcome
     requires { ⌜ Working c × Standing c (now part) (now log) at 1 (modTriples (c .setting .l) m) × KM (c .setting) k m ⌝ }
     ensures { λ r. ⌜ Comes c (now (part .entry)) (now (log .entry)) at (past (pastMask (c .setting .l) at) (modTriples (c .setting .l) m)) 1 (modTriples (c .setting .l) m) (modded c k m (a .shares)) r ⌝ }
 {
