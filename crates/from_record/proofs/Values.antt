@@ -1,8 +1,8 @@
 -- What the windows of an opening give, against the model's reading of it; and the numbers of an opening.
 -- Assumes nothing.
-use mathlib.Core.Path.{_≡_, refl, sym, ap, subst, _∙_}
+use mathlib.Core.Path.{_≡_, refl, sym, ap, _∙_}
 use mathlib.Core.Logic.{_≢_, _↔_}
-use mathlib.Core.Bool.{Bool, true, false, _||_, cond}
+use mathlib.Core.Bool.{Bool, true, false, cond}
 use mathlib.Core.List.{List, [], _∷_, List·Memᴰ as In, List·Memᴰ·head as here, List·Memᴰ·tail as there}
 use Prim.Native.Nat.{ℕ, zero, suc, _+_, _-_, _^_, _≤_, _<_}
 use native.Mathlib.Decide.{decLt, ℕ-discrete}
@@ -11,7 +11,7 @@ use borrow.Author.Tests.{eq-eqb, ne-eqb}
 use lib.Dec.{T, eqb}
 use lib.ListN.{length, getD, drop, take, length-drop}
 use lib.Seq.{getD-drop}
-use Rattle.algebra.specs.Lists.{Below, from}
+use Rattle.algebra.specs.Lists.{from}
 use Rattle.algebra.proofs.Lists.{in-from}
 use Rattle.algebra.proofs.Rows.{row-at}
 use Rattle.algebra.proofs.Tests.{true-false}
@@ -19,7 +19,7 @@ use Rattle.model.specs.Fields.{Modulus, Parties, InUse, modulus}
 use Rattle.model.specs.Presence.{bit, isPresent, presentIn, openers, PermittedSet}
 use Rattle.model.specs.Sharing.{at, valueFrom}
 use Rattle.model.specs.Refusing.{firstFailed}
-use Rattle.model.specs.Replay.{opening, presentAt, presentOf, openedValue, openingNumber}
+use Rattle.model.specs.Replay.{opening, presentAt, openedValue, openingNumber}
 use Rattle.model.specs.Replays.{OnOne, Openings}
 use Rattle.model.proofs.Polynomials.{positive}
 use Rattle.model.proofs.Presence.{presence, openers-in}
@@ -31,7 +31,7 @@ use Rattle.from_record.specs.Reading.{FoundIn, Finding, ownTests}
 use Rattle.from_record.specs.declared.Opened.{Opened}
 use Rattle.from_record.specs.declared.shown.Shown.{Shown}
 use Rattle.from_record.specs.declared.windows.Windows.{Windows}
-use Rattle.from_record.proofs.Sets.{without-none, kept, gone, after, enough-permitted, permitted-enough, permitted-openers}
+use Rattle.from_record.proofs.Sets.{kept, gone, after, enough-permitted, permitted-enough, permitted-openers}
 
 -- a share of an opening
 share-at : (p n t : ℕ) (log : List ℕ) (i : ℕ) → i < n → at 0 (opening p n t log) (suc i) ≡ getD log i 0
