@@ -1,14 +1,14 @@
 -- Bytes without the bits of parties 1 to z: whom they leave, which of them are permitted, and that those that are come first.
 -- Assumes nothing.
-use mathlib.Core.Path.{_≡_, refl, sym, ap, _∙_}
+use mathlib.Core.Path.{_≡_, refl, ap, _∙_}
 use mathlib.Core.Bool.{Bool, true, false, cond}
 use mathlib.Core.List.{List, [], _∷_, List·Memᴰ as In, List·Memᴰ·head as here, List·Memᴰ·tail as there}
 use Prim.Native.Nat.{ℕ, zero, suc, _+_, _-_, _*_, _/_, _%_, _^_, _≤_, _<_}
-use native.Mathlib.Nat.{pow-suc, div-one, mul-one, div-div-eq-div-mul, div-mul-le-self, mul-comm, mul-assoc}
+use native.Mathlib.Nat.{pow-suc, div-one, mul-one, div-div-eq-div-mul, div-mul-le-self, mul-comm}
 use native.Mathlib.Decide.{decLt}
 use native.Mathlib.Omega.{arith}
-use lib.ListN.{length, getD, set, take}
-use lib.Seq.{take-append-le, getD-set-same, getD-set-other}
+use lib.ListN.{length, set, take}
+use lib.Seq.{take-append-le}
 use Rattle.algebra.specs.Lists.{from}
 use Rattle.algebra.proofs.Lists.{in-from, length-from}
 use Rattle.model.specs.Fields.{Parties}

@@ -1,8 +1,8 @@
 -- What the windows of an opening give, against the model's reading of it; and the numbers of an opening.
 -- Assumes nothing.
-use mathlib.Core.Path.{_≡_, refl, sym, ap, subst, _∙_}
+use mathlib.Core.Path.{_≡_, refl, sym, ap, _∙_}
 use mathlib.Core.Logic.{_≢_, _↔_}
-use mathlib.Core.Bool.{Bool, true, false, _||_, cond}
+use mathlib.Core.Bool.{Bool, true, false, cond}
 use mathlib.Core.List.{List, [], _∷_, List·Memᴰ as In, List·Memᴰ·head as here, List·Memᴰ·tail as there}
 use Prim.Native.Nat.{ℕ, zero, suc, _+_, _-_, _^_, _≤_, _<_}
 use native.Mathlib.Decide.{decLt, ℕ-discrete}
@@ -11,7 +11,7 @@ use borrow.Author.Tests.{eq-eqb, ne-eqb}
 use lib.Dec.{T, eqb}
 use lib.ListN.{length, getD, drop, take, length-drop}
 use lib.Seq.{getD-drop}
-use Rattle.algebra.specs.Lists.{Below, from}
+use Rattle.algebra.specs.Lists.{from}
 use Rattle.algebra.proofs.Lists.{in-from}
 use Rattle.algebra.proofs.Rows.{row-at}
 use Rattle.algebra.proofs.Tests.{true-false}
@@ -19,7 +19,7 @@ use Rattle.model.specs.Fields.{Modulus, Parties, InUse, modulus}
 use Rattle.model.specs.Presence.{bit, isPresent, presentIn, openers, PermittedSet}
 use Rattle.model.specs.Sharing.{at, valueFrom}
 use Rattle.model.specs.Refusing.{firstFailed}
-use Rattle.model.specs.Replay.{opening, presentAt, presentOf, openedValue, openingNumber}
+use Rattle.model.specs.Replay.{opening, presentAt, openedValue, openingNumber}
 use Rattle.model.specs.Replays.{OnOne, Openings}
 use Rattle.model.proofs.Polynomials.{positive}
 use Rattle.model.proofs.Presence.{presence, openers-in}
@@ -31,7 +31,7 @@ use Rattle.from_record.specs.Reading.{FoundIn, Finding, ownTests}
 use Rattle.from_record.specs.declared.Opened.{Opened}
 use Rattle.from_record.specs.declared.shown.Shown.{Shown}
 use Rattle.from_record.specs.declared.windows.Windows.{Windows}
-use Rattle.from_record.proofs.Sets.{without-none, kept, gone, after, enough-permitted, permitted-enough, permitted-openers}
+use Rattle.from_record.proofs.Sets.{kept, gone, after, enough-permitted, permitted-enough, permitted-openers}
 
 -- a share of an opening
 share-at : (p n t : ℕ) (log : List ℕ) (i : ℕ) → i < n → at 0 (opening p n t log) (suc i) ≡ getD log i 0
@@ -152,6 +152,19 @@ found-above {p} {n} {t} {log} h S e =
 pub found-shown : {p n t : ℕ} {log : List ℕ} {x : Shown} {y : Opened} → ShownIn p n log x → x .fits ≡ true → Finding p n t x y → FoundIn p n t log y
 found-shown S e F = F _ (S .gathered e)
 
+-- the own share: it is absent, or the same, or another
+pub own-absent : {p share : ℕ} (own : ℕ) → share ≡ p → 0 ≡ firstFailed (ownTests p own share)
+unfolding firstFailed
+own-absent {p} {share} own e = rw (eq-eqb share p e)
+
+pub own-same : {p own share : ℕ} → (share ≡ p → ⊥) → share ≡ own → 0 ≡ firstFailed (ownTests p own share)
+unfolding firstFailed
+own-same {p} {own} {share} n e = rw (ne-eqb share p n, eq-eqb share own e)
+
+pub own-differs : {p own share : ℕ} → (share ≡ p → ⊥) → (share ≡ own → ⊥) → 41 ≡ firstFailed (ownTests p own share)
+unfolding firstFailed
+own-differs {p} {own} {share} n m = rw (ne-eqb share p n, ne-eqb share own m)
+
 -- The number of an opening.
 module _ (f own : ℕ) {p n t j : ℕ} (q : p ≡ modulus f) (U : InUse f) (P : Parties n t) (l : 1 ≤ j) (u : j ≤ n) (log : List ℕ) (at′ : ℕ) (h : at′ ≤ length log) where
   abbrev rest : List ℕ
@@ -180,8 +193,6 @@ module _ (f own : ℕ) {p n t j : ℕ} (q : p ≡ modulus f) (U : InUse f) (P : 
       is = own-share p n t log at′ j l u
 
       go : Dec (share ≡ p) → Dec (share ≡ own) → r ≡ openingNumber p n t j own rest
-      go (yes a) c = unfold firstFailed in rw (k, eq-eqb share p a) (sym (numbers .absent fits (F .on-one e) (is ∙ a)))
-      go (no a) (yes c) = unfold firstFailed in rw (k, ne-eqb share p a, eq-eqb share own c) (sym (numbers .same fits (F .on-one e) (is ∙ c)))
-      go (no a) (no c) =
-          unfold firstFailed in
-          rw (k, ne-eqb share p a, ne-eqb share own c) (sym (numbers .differs fits (F .on-one e) (λ z. a (sym is ∙ z)) (λ z. c (sym is ∙ z))))
+      go (yes a) c = k ∙ sym (own-absent own a) ∙ sym (numbers .absent fits (F .on-one e) (is ∙ a))
+      go (no a) (yes c) = k ∙ sym (own-same a c) ∙ sym (numbers .same fits (F .on-one e) (is ∙ c))
+      go (no a) (no c) = k ∙ sym (own-differs a c) ∙ sym (numbers .differs fits (F .on-one e) (λ z. a (sym is ∙ z)) (λ z. c (sym is ∙ z)))

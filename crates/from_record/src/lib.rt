@@ -16,8 +16,8 @@ use crate::windows::Windows;
 use field::table;
 use secret::Row;
 
-// What a party reads a record with: its table's field, parties and threshold, its own number, and how openings are worked by those who were present at the
-// record's first opening, since these are present at all of them unless the record is wrong.
+// What a party reads a record with: its table's field, parties and threshold, its own number, and how openings are worked by those who are present at the
+// record's first opening. In the record of a run they are present at every opening, so that weights are worked out once.
 pub struct Reader {
     pub field: usize,
     pub p: u32,
@@ -27,7 +27,7 @@ pub struct Reader {
     pub windows: Windows,
 }
 
-// The number of an opening, 0 or a refusal, and its value, 0 where its shares are refused.
+// The number of an opening, 0 or 41 to 43, and its value, 0 where 42 or 43 refuses.
 pub struct Opened {
     pub number: u32,
     pub value: u32,

@@ -1,7 +1,7 @@
 // Whether the shares of those present are on one polynomial: every t + 1 of them that are neighbours in the order of parties give the same value.
 ghost use mathlib.Core.Path.{_≡_};
 ghost use mathlib.Core.Logic.{_↔_};
-ghost use Prim.Native.Nat.{_+_, _^_, _≤_, _<_};
+ghost use Prim.Native.Nat.{_+_, _^_, _<_};
 ghost use lib.Dec.{T};
 ghost use Rattle.algebra.specs.Lists as Lists;
 ghost use Rattle.model.specs.Fields as Fields;

@@ -4,29 +4,29 @@ use mathlib.Core.Path.{_≡_, refl, sym, ap, _∙_}
 use mathlib.Core.Logic.{_≢_}
 use mathlib.Core.Bool.{Bool, true, false, _||_, cond}
 use mathlib.Core.List.{List, [], _∷_, List·Memᴰ as In, List·Memᴰ·head as here, List·Memᴰ·tail as there}
-use Prim.Native.Nat.{ℕ, zero, suc, _+_, _*_, _≤_, _<_}
+use Prim.Native.Nat.{ℕ, zero, suc, _+_, _≤_, _<_}
 use native.Mathlib.Decide.{decLt, ℕ-discrete}
 use native.Mathlib.Omega.{arith}
-use borrow.Author.Tests.{lt-ltb, le-ltb, le-leb, lt-leb, eq-eqb, ne-eqb}
+use borrow.Author.Tests.{le-leb, lt-leb, eq-eqb, ne-eqb}
 use lib.Dec.{T, eqb, leb, eqb→eq, leb→le}
 use lib.ListN.{length, getD, take}
 use lib.Seq.{length-take-le}
-use Rattle.algebra.specs.Lists.{Below, allBelow, Distinct, from}
+use Rattle.algebra.specs.Lists.{allBelow, Distinct, from}
 use Rattle.algebra.proofs.Lists.{all-below, below-any, in-from, from-in}
 use Rattle.algebra.proofs.Rows.{row-past}
-use Rattle.algebra.proofs.Tests.{and-left, and-right, and-both, is-true, is-false}
+use Rattle.algebra.proofs.Tests.{and-left, and-right, and-both, is-true}
 use Rattle.model.specs.Fields.{Modulus, modulus, InUse, Parties}
-use Rattle.model.specs.Sharing.{eval, interpolate, at}
+use Rattle.model.specs.Sharing.{eval, at}
 use Rattle.model.specs.Shamir.{Group}
 use Rattle.model.specs.Refusing.{firstFailed}
 use Rattle.model.specs.Sheet.{all}
 use Rattle.model.specs.Replay.{opening, presentAt, presentOf, through, openedValue, openingTests, openingNumber}
 use Rattle.model.specs.Replays.{OnOne, Openings}
 use Rattle.model.proofs.Fields.{fields}
-use Rattle.model.proofs.Polynomials.{Nodes, interpolate-cong, length-interpolate, below-interpolate, positive, interpolate-only}
+use Rattle.model.proofs.Polynomials.{interpolate-cong, length-interpolate, below-interpolate, positive, interpolate-only}
 use Rattle.model.proofs.Presence.{Rising, rising-from, rising-distinct, in-take, distinct-take}
 use Rattle.model.proofs.Sharings.{nodes-distinct}
-use Rattle.model.proofs.Trying.{passes, fails, nothing-left}
+use Rattle.model.proofs.Trying.{passes, fails}
 
 -- A list without one of its numbers: one shorter, and it has all the others.
 record Without (x : ℕ) (ys : List ℕ) : Type 0 where

@@ -13,7 +13,6 @@ use lib.Dec.{eqb}
 use lib.ListN.{length, take}
 use lib.Seq.{length-take-le, take-all}
 use Rattle.algebra.specs.Lists.{from, Distinct}
-use Rattle.algebra.proofs.Lists.{length-from}
 use Rattle.model.specs.Fields.{Modulus, Parties}
 use Rattle.model.specs.Sharing.{eval, interpolate, at, valueFrom}
 use Rattle.model.specs.Replay.{presentAt, presentOf, through, openedValue}
@@ -118,31 +117,6 @@ module _ (p n t : ℕ) (x : List ℕ) where
 
   after-distinct : (z : ℕ) → Distinct (presentAfter z)
   after-distinct z = rising-distinct (presentAfter z) (present-rises p n t x (from (suc z) (n - z)) (rising-from (suc z) (n - z)))
-
-  length-present : (js : List ℕ) → length (presentAt p n t x js) ≤ length js
-  unfolding presentAt
-  length-present [] = omega arith
-  length-present (j ∷ js) = go (eqb (at 0 x j) p) (length-present js)
-    where
-      go : (b : Bool) → length (presentAt p n t x js) ≤ length js
-          → length (cond b (presentAt p n t x js) (j ∷ presentAt p n t x js)) ≤ suc (length js)
-      go true h = omega arith
-      go false h = omega arith
-
-  pub after-fewer : (z : ℕ) → length (presentAfter (suc z)) ≤ length (presentAfter z)
-  after-fewer z = go (decLt z n)
-    where
-      go : Dec (z < n) → length (presentAfter (suc z)) ≤ length (presentAfter z)
-      go (yes l) = ⊎-elim (λ e. rw e (omega arith)) (λ e. rw e (omega arith)) (after-less z l)
-      go (no l) = rw (after-none (suc z) (omega arith)) (omega arith)
-
-  -- at least t + 1 after a party leave room for them
-  pub after-room : (z : ℕ) → suc t ≤ length (presentAfter z) → z + suc t ≤ n
-  after-room z h = go (decLt z n)
-    where
-      go : Dec (z < n) → z + suc t ≤ n
-      go (yes l) = omega (arith, length-present (from (suc z) (n - z)), length-from (suc z) (n - z))
-      go (no l) = absurd (omega (arith, ap length (after-none z (omega arith))))
 
 module _ {p n t : ℕ} (M : Modulus p) (P : Parties n t) (x : List ℕ) where
   nodes : Nodes (0 ∷ presentOf p n t x)

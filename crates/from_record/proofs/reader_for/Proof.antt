@@ -1,7 +1,7 @@
 -- `reader_for` meets its contract: the windows are those of a byte that has no bit past n.
 -- Assumes nothing.
 use borrow.Author.Needs.{needs}
-use mathlib.Core.Path.{_≡_, refl}
+use mathlib.Core.Path.{refl}
 use Rattle.from_record.proofs.reader_for.Statement.{statement}
 use Rattle.from_record.proofs.reader_for.Tie as tie
 

@@ -4,7 +4,7 @@ use Prim.Native.Nat.{_-_}
 use Rattle.model.specs.Fields.{modulus}
 use Rattle.from_record.proofs.Windowing.{Windowing, is-permitted, not-permitted, windowing-start, windowing-more, windowing-stop, windowing-end}
 use borrow.Author.Needs.{needs}
-use mathlib.Core.Path.{_≡_, refl, sym, _∙_}
+use mathlib.Core.Path.{refl, _∙_}
 use native.Mathlib.Omega.{arith}
 use Rattle.from_record.proofs.windows.windows_of.Statement.{statement}
 use Rattle.from_record.proofs.windows.windows_of.Tie as tie

@@ -1,6 +1,5 @@
 -- `windows::without_first` meets its contract: the table has the powers of 2.
 -- Assumes nothing.
-use Prim.Native.Nat.{_*_, _/_, _^_}
 use Rattle.from_record.specs.Windowed.{without}
 use Rattle.from_record.proofs.Windowing.{power-at}
 use Rattle.from_record.proofs.Sets.{without-most}
