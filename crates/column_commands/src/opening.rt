@@ -10,7 +10,7 @@ ghost use Rattle.registers.specs.Cells.{registerIn};
 ghost use Rattle.column_steps.specs.Reads.{Working, Standing, OpensNext, Comes, past, pastMask, compared};
 ghost use Rattle.column_steps.specs.Remainders.{KM};
 ghost use Rattle.column_steps.specs.Cutting.{cutTree};
-ghost use Rattle.column_commands.specs.Does.{Storing};
+ghost use Rattle.column_commands.specs.Does.{Storing, Reveals};
 use crate::own;
 use crate::own::Done;
 use column_steps::column;
@@ -42,7 +42,7 @@ pub fn multiply(
     let left = register(&table.cells[..], a);
     let right = register(&table.cells[..], b);
     let made = product::product(c, at, part, log, left, right);
-    own::stored(table, d, made)
+    own::stored(table, d, made.number, made.row)
 }
 
 // BITLT of v against w registers from b on, of a table's cells, which are lent.
@@ -78,7 +78,7 @@ pub fn compare(
     ensures { λ r. ⌜ Storing c (now (part .entry)) (now (log .entry)) at (past at (w - 1)) 0 (w - 1) (compared c v (Bytes.sevens w (drop (7 * b) (table .cells)))) table d r ⌝ }
 {
     let made = comparison_from(c, at, part, log, &table.cells[..], b, w, v);
-    own::stored(table, d, made)
+    own::stored(table, d, made.number, made.row)
 }
 
 // A cut of register a goes to register d: MOD, TRUNC, LTZ, OVER or BLOCKS.
@@ -97,14 +97,25 @@ pub fn cut(
 {
     let row = register(&table.cells[..], a);
     let made = cut::cut_row(c, at, part, log, y, row);
-    own::stored(table, d, made)
+    own::stored(table, d, made.number, made.row)
 }
 
-// REVEAL a: one opening. Its value goes nowhere: the revealed list is the table's.
-pub fn reveal(table: Table, c: Column, at: Ahead, log: &[u32], a: usize) -> Opened
+// REVEAL a: one opening. Its value goes nowhere: a replay has no revealed list.
+fn reveal(table: Table, c: Column, at: Ahead, log: &[u32], a: usize) -> Opened
     requires { ⌜ Working c × (c .reader .n * at .opening ≤ length (now log)) × (a < 64) ⌝ }
     ensures { λ r. ⌜ OpensNext c (now (log .entry)) (at .opening) (registerIn (table .cells) a) r ⌝ }
 {
     let row = register(&table.cells[..], a);
     column::open_row(c, log, at.opening, row)
+}
+
+pub fn revealed(table: Table, c: Column, at: Ahead, log: &[u32], a: usize) -> Done
+    requires { ⌜ Working c × (c .reader .n * at .opening ≤ length (now log)) × (a < 64) ⌝ }
+    ensures { λ r. ⌜ Reveals c (now (log .entry)) (at .opening) (registerIn (table .cells) a) (r .number) × (r .table ≡ table) ⌝ }
+{
+    let opened = reveal(table, c, at, log, a);
+    Done {
+        number: opened.number,
+        table,
+    }
 }

@@ -8,14 +8,17 @@ ghost use Rattle.registers.specs.Cells.{Stored};
 ghost use Rattle.column_commands.specs.Does.{aheadOf, Reached, Stores};
 use column_steps::column::Ahead;
 use column_steps::column::Column;
-use column_steps::column::Outcome;
 use costs::counts::Counts;
 use registers::table::Table;
+use secret::Row;
 use sharing::rows;
 
-// How its rows are worked and its openings read, and where the first mask and the first triple stand in its part.
+// How its rows are worked and its openings read, the field's largest k, how many inputs there are, and where the first mask and the first triple stand in
+// its part. The first input stands at its start.
 pub struct Own {
     pub column: Column,
+    pub largest: u32,
+    pub inputs: usize,
     pub mask: usize,
     pub triple: usize,
 }
@@ -39,20 +42,17 @@ pub fn ahead_of(own: Own, spent: Counts) -> Ahead
     }
 }
 
-// What a step came to: its row goes to register d, or its refusal on.
-pub fn stored(table: Table, d: usize, made: Outcome) -> Done
+// A step that came to a number and a row: where the number is 0 the row goes to register d.
+pub fn stored(table: Table, d: usize, number: u32, row: Row) -> Done
     requires { ⌜ d < 64 ⌝ }
-    ensures { λ r. ⌜ Stores table d made r ⌝ }
+    ensures { λ r. ⌜ Stores table d number (row .shares) r ⌝ }
 {
-    if made.number != 0 {
-        return Done {
-            number: made.number,
-            table,
-        };
+    if number != 0 {
+        return Done { number, table };
     }
     Done {
         number: 0,
-        table: table.put(d, made.row),
+        table: table.put(d, row),
     }
 }
 
