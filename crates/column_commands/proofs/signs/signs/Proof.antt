@@ -92,10 +92,9 @@ loop-again c =
     let turn = test .before in
     let start = turn .before .before .before in
     let Z = put .stored .ensures in
-    let z = sym (Z .same-number) ∙ on .if1 .left in
-    (
+    let z = sym (Z .same-number) ∙ on .if1 .left in (
       signed-more (start .pre .0) (turn .loop .inv .0) (test .loop-test .taken) (omega (arith, test .loop-test .taken, start .pre .4)) (call .sign-of .ensures) z
-      (omega (arith, test .loop-test .taken, start .pre .3)) (Z .size) (Z .seven) (Z .cells z) (c .past-sign .ensures),
+          (omega (arith, test .loop-test .taken, start .pre .3)) (Z .size) (Z .seven) (Z .cells z) (c .past-sign .ensures),
       Z .spent ∙ turn .loop .inv .1,
     )
 
