@@ -39,7 +39,7 @@ extern "C" {
 #define JUNDRETHOL_VERSION_MAJOR 3
 #define JUNDRETHOL_VERSION_MINOR 3
 
-/* What every function answers: 0, or the first of the others that applies. 12 comes after 3 and before 4. */
+/* What every function answers: 0, or the first of the others that applies. 12 comes after 3 and before 4, and 41 to 43 are tried from 43 down. */
 #define JUNDRETHOL_DONE 0
 
 /* The input is refused, or the output for it, or who is present, and nothing is run, replayed or turned. A forecast answers 1 to 4 and 9 to 11 of
