@@ -1,7 +1,7 @@
 /* How deep the stack goes in a run of each sheet named, with everyone present and with party 1 absent, in the forecast of its header and script, in
- * turning it to its column form and back, in each small entry, and in an import: a call is made on a stack that was filled with one byte, and the lowest byte that changed tells. Two fillings,
- * so that a byte that happens to be the filling is seen. Exits with 1 if a call goes deeper than JUNDRETHOL_STACK, answers another number than it
- * must, or a sheet cannot be read. */
+ * turning it to its column form and back, in party 2's replay of the second run, in each small entry, and in an import: a call is made on a stack that
+ * was filled with one byte, and the lowest byte that changed tells. Two fillings, so that a byte that happens to be the filling is seen. Exits with 1 if
+ * a call goes deeper than JUNDRETHOL_STACK, answers another number than it must, or a sheet cannot be read. */
 #define _GNU_SOURCE
 #include <stdio.h>
 #include <string.h>
@@ -19,11 +19,13 @@ static uint32_t answer;
 static uint8_t sheet[JUNDRETHOL_SHEET_LENGTH], present;
 static size_t sheet_length;
 
+static uint32_t record[JUNDRETHOL_RECORD_LENGTH];
+static uint64_t counts[JUNDRETHOL_COUNTS_LENGTH];
+
 static void run(void)
 {
-    static uint32_t record[JUNDRETHOL_RECORD_LENGTH], revealed[JUNDRETHOL_REVEALED_LENGTH], registers[JUNDRETHOL_REGISTERS_LENGTH];
+    static uint32_t revealed[JUNDRETHOL_REVEALED_LENGTH], registers[JUNDRETHOL_REGISTERS_LENGTH];
     static uint8_t marks[JUNDRETHOL_MARKS_LENGTH];
-    static uint64_t counts[JUNDRETHOL_COUNTS_LENGTH];
     top = (uintptr_t)__builtin_frame_address(0);
     answer = jundrethol_run(sheet, sheet_length, present, record, JUNDRETHOL_RECORD_LENGTH, revealed, JUNDRETHOL_REVEALED_LENGTH, registers,
                             JUNDRETHOL_REGISTERS_LENGTH, marks, JUNDRETHOL_MARKS_LENGTH, counts, JUNDRETHOL_COUNTS_LENGTH);
@@ -48,6 +50,15 @@ static void to_sheet(void)
 {
     top = (uintptr_t)__builtin_frame_address(0);
     answer = jundrethol_to_sheet(columns, sheet_length, back, JUNDRETHOL_SHEET_LENGTH);
+}
+
+static void replay(void)
+{
+    static uint32_t cells[JUNDRETHOL_CELLS_LENGTH];
+    size_t head_length = 11 + sheet[9] + 256 * (size_t)sheet[10], part_length = (sheet_length - head_length) / sheet[1];
+    top = (uintptr_t)__builtin_frame_address(0);
+    answer = jundrethol_replay(2, sheet, head_length, columns + head_length + part_length, part_length, record, JUNDRETHOL_RECORD_LENGTH, cells,
+                               JUNDRETHOL_CELLS_LENGTH, counts, JUNDRETHOL_COUNTS_LENGTH);
 }
 
 static uint32_t shares[7], coefficients[3] = {1, 2, 3}, value;
@@ -141,9 +152,12 @@ int main(int count, char **names)
         good &= fits(names[i], run, ANY);
         present = (uint8_t)(present & ~1);
         good &= fits("  party 1 absent", run, ANY);
+        uint32_t number = answer;
         good &= fits("  forecast", forecast, ANY);
         good &= fits("  to columns", to_columns, JUNDRETHOL_DONE);
         good &= fits("  to sheet", to_sheet, JUNDRETHOL_DONE);
+        /* Of a sheet that was not run there is no record. */
+        good &= fits("  replay", replay, number >= 1 && number <= 20 ? ANY : number);
     }
     good &= fits("share", share, JUNDRETHOL_DONE);
     good &= fits("recover", recover, JUNDRETHOL_DONE);

@@ -1,5 +1,6 @@
-/* Jundrethol: Shamir shares, scripts that work on them, forecasts of whether a script would come to its end, calls from an exchange's list, and
- * sheets turned so that each party's shares stand together, for C on x86-64 Linux.
+/* Jundrethol: Shamir shares, scripts that work on them, forecasts of whether a script would come to its end, replays of one party's column from
+ * its own shares and the record of a run, calls from an exchange's list, and sheets turned so that each party's shares stand together, for C on
+ * x86-64 Linux.
  *
  * Link target/staticlib/libjundrethol.a, which `rt staticlib jundrethol` writes. Each function is proved to give exactly the answer that its
  * contract in crates/jundrethol/src/lib.rt fixes, to end, and not to fault, whatever the numbers, the bytes and the lengths are. Nothing is
@@ -31,20 +32,22 @@ extern "C" {
 #endif
 
 /* The version of this header and of the archive that is built beside it. While the first number stays, refusals and places in counts keep their
- * numbers, functions their parameters, and a function call that answers 0, 21 to 26 or 31 to 33 leaves the same values. A higher second number
- * may add functions, refusals, and counts after the last, and may accept what was refused with 1 to 20, or refuse it with another number or at
- * another place, but for 15: an output that is shorter than the input stays refused. Where the first number grows, the second starts at 0. */
+ * numbers, functions their parameters, and a function call that answers 0, 21 to 26, 31 to 33 or 41 to 43 leaves the same values. A higher
+ * second number may add functions, refusals, and counts after the last, and may accept what was refused with 1 to 20, or refuse it with another
+ * number or at another place, but for 15: an output that is shorter than the input stays refused. Where the first number grows, the second
+ * starts at 0. */
 #define JUNDRETHOL_VERSION_MAJOR 3
-#define JUNDRETHOL_VERSION_MINOR 2
+#define JUNDRETHOL_VERSION_MINOR 3
 
-/* What every function answers: 0, or the first of the others that applies. 12 comes after 3 and before 4. */
+/* What every function answers: 0, or the first of the others that applies. 12 comes after 3 and before 4, and 41 to 43 are tried from 43 down. */
 #define JUNDRETHOL_DONE 0
 
-/* The input is refused, or the output for it, or who is present, and nothing is run or turned. A forecast answers 1 to 4 and 9 to 11 of these. */
+/* The input is refused, or the output for it, or who is present, and nothing is run, replayed or turned. A forecast answers 1 to 4 and 9 to 11 of
+ * these, a replay 1 to 5 and 9 to 11. */
 #define JUNDRETHOL_NO_HEADER 1     /* the sheet, the column form or the head has fewer than 11 bytes */
 #define JUNDRETHOL_BAD_FIELD 2     /* the field is over 3 */
-#define JUNDRETHOL_BAD_PARTIES 3   /* n is not from 3 to 7, t is below 1, or 2t + 1 is over n */
-#define JUNDRETHOL_BAD_LENGTH 4    /* a count is over its limit, or a list, the sheet, the column form or the head has the wrong length */
+#define JUNDRETHOL_BAD_PARTIES 3   /* n is not from 3 to 7, t is below 1, or 2t + 1 is over n; the party of a replay is not from 1 to n */
+#define JUNDRETHOL_BAD_LENGTH 4    /* a count is over its limit, or a list, the sheet, the column form, the head or the part has the wrong length */
 #define JUNDRETHOL_NOT_BELOW_P 5   /* a secret, coefficient, share or field value is not below p */
 #define JUNDRETHOL_NO_SHARING 6    /* a row is no sharing */
 #define JUNDRETHOL_BAD_MASK 7      /* a mask is not well formed */
@@ -56,7 +59,7 @@ extern "C" {
 #define JUNDRETHOL_OUTPUT_SHORT 15 /* the output is shorter than the input */
 
 /* A command is refused because of the state: those before it stand, and it changes nothing. Of LTZS no sign is then worked. A forecast answers 21
- * to 24 where a run would. */
+ * to 24 where a run would, and so does a replay. */
 #define JUNDRETHOL_UNSET 21           /* a register that is read is unset */
 #define JUNDRETHOL_NO_INPUT 22        /* no input row is left */
 #define JUNDRETHOL_NO_MASK 23         /* fewer masks are left than the command takes: none, or for LTZS fewer than h */
@@ -69,6 +72,12 @@ extern "C" {
 #define JUNDRETHOL_BAD_TIME 32     /* a time is malformed, or comes before the one that it must follow */
 #define JUNDRETHOL_SECONDS_FULL 33 /* the line is good, and there is no place for its call */
 
+/* A command of a replay is refused because of an opening in the record: those before it stand, and it changes nothing. At each opening 43 is
+ * tried first, then 42, then 41. */
+#define JUNDRETHOL_OWN_SHARE_DIFFERS 41 /* the party's own share is present, and it is not the one that the party works out */
+#define JUNDRETHOL_BAD_OPENING 42       /* a number is above p, fewer than t + 1 shares are present, or those present are on no one polynomial */
+#define JUNDRETHOL_RECORD_SHORT 43      /* fewer than n numbers are left in the record */
+
 /* The bytes of the largest sheet, and of the largest column form: a longer one is refused. */
 #define JUNDRETHOL_SHEET_LENGTH 59723
 
@@ -76,8 +85,9 @@ extern "C" {
 #define JUNDRETHOL_RECORD_LENGTH 10850
 #define JUNDRETHOL_REVEALED_LENGTH 511
 
-/* The cells of 64 registers, 7 each; the marks; and the counts. */
+/* The cells of 64 registers, 7 each, and of one party's column, 1 each; the marks; and the counts. */
 #define JUNDRETHOL_REGISTERS_LENGTH 448
+#define JUNDRETHOL_CELLS_LENGTH 64
 #define JUNDRETHOL_MARKS_LENGTH 64
 #define JUNDRETHOL_COUNTS_LENGTH 6
 
@@ -135,6 +145,42 @@ uint32_t jundrethol_run(
  * sheet's length and shares, of who is present or of shorter buffers: a run may still answer 4 to 8, 12, 25 or 26.
  */
 uint32_t jundrethol_forecast(uint64_t *place, const uint8_t *head, size_t head_length);
+
+/* Replays one party's column of a run: its cells and the counts, from its own shares and the record. It takes no other party's shares but those
+ * that were opened.
+ *
+ * party   is the party's number, from 1 to n.
+ * head    is the head of the sheet that was run: header and script, which are the sheet's first 11 + script length bytes, and no byte more.
+ * part    is the party's part of the sheet's column form, which jundrethol_to_columns writes: 4 bytes for each row.
+ * record  is what jundrethol_run wrote to its record: n numbers for each opening, party 1's first. They are the shares that were opened; p itself
+ *         stands for an absent one. An opened value is the value at 0 of the one polynomial of degree at most t through the shares present.
+ *         Numbers after the last opening are ignored, so the whole list that was lent to the run may be handed over.
+ * cells   gets 64 cells: the party's share in register r is cells[r]. Those of unset registers are 0.
+ * counts  gets the place; how many inputs, masks and triples were spent and openings made; and how many values were revealed, as in
+ *         jundrethol_run. The values themselves are not written.
+ *
+ * The lengths of cells and counts decide nothing: a list that is too short gets as many numbers as it has places for. Past what is written both
+ * are unchanged.
+ *
+ * Of a run that answered 0 or 21 to 24, whoever was present and however long its lists were, the replay of each party answers the same number;
+ * cells[r] is the run's registers[7 * r + party - 1], and counts are the run's.
+ *
+ * Answers 0, and the place is END's offset in the script. 1, 2, 3, 4 or 5, at place 0: 3 says also that party is not from 1 to n; 4 that a count
+ * is over its limit, that head_length is not 11 + script length, or that part_length is not that of a part; 5 that a share of the part is not
+ * below p. 9, 10 or 11, at the offset of what is refused. With these cells and counts get 0, but for the place in 9 to 11. 21, 22, 23 or 24 before
+ * a command; 43, 42 or 41 at one of its openings, where the party's own share is compared only if it is present. Then what the commands before the
+ * refused one left stands, and the place is the refused command's offset. It answers no other number.
+ *
+ * 0 says that every opening that the script makes stands in the record, is on one polynomial, and has the party's own share or p for it. It says
+ * nothing of the other parties' columns beyond what was opened.
+ */
+uint32_t jundrethol_replay(
+    uint32_t party,
+    const uint8_t *head, size_t head_length,
+    const uint8_t *part, size_t part_length,
+    const uint32_t *record, size_t record_length,
+    uint32_t *cells, size_t cells_length,
+    uint64_t *counts, size_t counts_length);
 
 /* Shares a secret among n parties with t coefficients, the first power's first: share j goes to shares[j - 1]. The lengths are exactly t and
  * n. Answers 0, or a refusal 2, 3, 4 or 5, which writes nothing. */

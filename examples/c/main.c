@@ -1,6 +1,6 @@
 /* The paper's MUL sheet through the C ABI: how its run would end, the run, and the run once more with a firm's machine down; a secret shared, recovered
- * and summed, numbers encoded and decoded, calls taken from an exchange's list, and the sheet cut into the parties' parts and put together again. Exits
- * with 1 if an answer is wrong. */
+ * and summed, numbers encoded and decoded, calls taken from an exchange's list, the sheet cut into the parties' parts and put together again, and one
+ * firm's column replayed from its part and the record. Exits with 1 if an answer is wrong. */
 #include <inttypes.h>
 #include <stdio.h>
 #include <stdlib.h>
@@ -8,8 +8,8 @@
 
 #include "jundrethol.h"
 
-#if JUNDRETHOL_VERSION_MAJOR != 3 || JUNDRETHOL_VERSION_MINOR < 1
-#error "written for version 3 of the library, from 3.1 on"
+#if JUNDRETHOL_VERSION_MAJOR != 3 || JUNDRETHOL_VERSION_MINOR < 3
+#error "written for version 3 of the library, from 3.3 on"
 #endif
 
 #define COUNT(list) (sizeof(list) / sizeof((list)[0]))
@@ -276,6 +276,89 @@ static void cut_and_join(void)
     expect(memcmp(back, before, ROOM) == 0, "a refusal writes nothing");
 }
 
+/* What a replay leaves. */
+struct replayed {
+    uint32_t number, cells[JUNDRETHOL_CELLS_LENGTH];
+    uint64_t counts[JUNDRETHOL_COUNTS_LENGTH];
+};
+
+static void replay(uint32_t party, const struct pieces *pieces, const uint32_t *record, size_t length, struct replayed *replayed)
+{
+    replayed->number = jundrethol_replay(party, pieces->head, pieces->head_length, pieces->parts[party - 1], pieces->part_length, record, length,
+                                         replayed->cells, COUNT(replayed->cells), replayed->counts, COUNT(replayed->counts));
+}
+
+/* The script sets registers 0 to 2. */
+static void print_replay(const char *what, const struct replayed *replayed)
+{
+    printf("replay by %s: cells %" PRIu32 " %" PRIu32 " %" PRIu32 " end %" PRIu32 " at %" PRIu64 " inputs %" PRIu64 " masks %" PRIu64 " triples %" PRIu64
+           " openings %" PRIu64 "\n", what, replayed->cells[0], replayed->cells[1], replayed->cells[2], replayed->number,
+           replayed->counts[JUNDRETHOL_COUNT_PLACE], replayed->counts[JUNDRETHOL_COUNT_INPUTS], replayed->counts[JUNDRETHOL_COUNT_MASKS],
+           replayed->counts[JUNDRETHOL_COUNT_TRIPLES], replayed->counts[JUNDRETHOL_COUNT_OPENINGS]);
+}
+
+/* Number, column and counts are those of the run. */
+static int as_run(uint32_t party, const struct replayed *replayed, const struct ran *ran)
+{
+    int same = replayed->number == ran->number && memcmp(replayed->counts, ran->counts, sizeof ran->counts) == 0;
+    for (size_t r = 0; r < JUNDRETHOL_CELLS_LENGTH; r++)
+        same = same && replayed->cells[r] == ran->registers[7 * r + party - 1];
+    return same;
+}
+
+static void replay_damaged(const struct pieces *pieces, const struct ran *ran)
+{
+    static struct replayed replayed;
+    uint32_t record[COUNT(ran->record)];
+    /* Party 3's share of the second opening is 4: 2 3 5 are on no line. MUL is undone. */
+    memcpy(record, ran->record, sizeof record);
+    record[5] = 5;
+    replay(2, pieces, record, COUNT(record), &replayed);
+    print_replay("party 2, a share of party 3 changed", &replayed);
+    expect(replayed.number == JUNDRETHOL_BAD_OPENING && replayed.counts[JUNDRETHOL_COUNT_PLACE] == 4, "a changed share is found");
+    expect(replayed.cells[1] == 11 && replayed.cells[2] == 0, "what was before MUL stands, and MUL is undone");
+    /* 1 2 3 are on a line, but party 2 opened 6. */
+    memcpy(record, ran->record, sizeof record);
+    record[0] = 1, record[1] = 2, record[2] = 3;
+    replay(2, pieces, record, COUNT(record), &replayed);
+    print_replay("party 2, a row exchanged", &replayed);
+    expect(replayed.number == JUNDRETHOL_OWN_SHARE_DIFFERS && replayed.counts[JUNDRETHOL_COUNT_PLACE] == 4, "the own share is compared");
+    /* REVEAL's opening lacks a number. */
+    replay(2, pieces, ran->record, COUNT(ran->record) - 1, &replayed);
+    print_replay("party 2, a number cut off", &replayed);
+    expect(replayed.number == JUNDRETHOL_RECORD_SHORT && replayed.counts[JUNDRETHOL_COUNT_PLACE] == 8, "a short record is found");
+    expect(replayed.cells[2] == 12, "MUL stands");
+}
+
+static void replay_column(void)
+{
+    static uint8_t sheet[ROOM], columns[ROOM];
+    static struct ran all, absent;
+    static struct replayed replayed;
+    size_t length = make_sheet(sheet);
+    expect(jundrethol_to_columns(sheet, length, columns, ROOM) == JUNDRETHOL_DONE, "the sheet has a column form");
+    struct pieces pieces = cut(columns, length);
+    run_with(EVERYONE, &all);
+    replay(2, &pieces, all.record, COUNT(all.record), &replayed);
+    print_replay("party 2", &replayed);
+    expect(as_run(2, &replayed, &all), "party 2's column is that of the run");
+    run_with(PARTY_1_ABSENT, &absent);
+    replay(2, &pieces, absent.record, COUNT(absent.record), &replayed);
+    print_replay("party 2, party 1 absent", &replayed);
+    expect(as_run(2, &replayed, &absent), "and with party 1 absent");
+    replay(1, &pieces, absent.record, COUNT(absent.record), &replayed);
+    print_replay("party 1, itself absent", &replayed);
+    expect(as_run(1, &replayed, &absent), "an absent own share is not compared");
+    replay_damaged(&pieces, &all);
+    /* A whole sheet is no head, and there is no party 4; of a list that is too short the rest stays. */
+    replayed.cells[1] = 99;
+    expect(jundrethol_replay(2, sheet, length, pieces.parts[1], pieces.part_length, all.record, COUNT(all.record), replayed.cells, 1, replayed.counts,
+                             COUNT(replayed.counts)) == JUNDRETHOL_BAD_LENGTH, "a whole sheet is longer than its head");
+    expect(replayed.cells[0] == 0 && replayed.cells[1] == 99 && replayed.counts[JUNDRETHOL_COUNT_INPUTS] == 0, "what has no place is not written");
+    expect(jundrethol_replay(4, pieces.head, pieces.head_length, pieces.parts[1], pieces.part_length, all.record, COUNT(all.record), replayed.cells,
+                             COUNT(replayed.cells), replayed.counts, COUNT(replayed.counts)) == JUNDRETHOL_BAD_PARTIES, "there is no party 4");
+}
+
 int main(void)
 {
     forecast_run();
@@ -285,5 +368,6 @@ int main(void)
     encode_and_decode();
     import_calls();
     cut_and_join();
+    replay_column();
     return 0;
 }

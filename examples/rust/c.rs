@@ -19,6 +19,20 @@ extern "C" {
 
     pub fn jundrethol_forecast(place: *mut u64, head: *const u8, head_length: usize) -> u32;
 
+    pub fn jundrethol_replay(
+        party: u32,
+        head: *const u8,
+        head_length: usize,
+        part: *const u8,
+        part_length: usize,
+        record: *const u32,
+        record_length: usize,
+        cells: *mut u32,
+        cells_length: usize,
+        counts: *mut u64,
+        counts_length: usize,
+    ) -> u32;
+
     pub fn jundrethol_share(
         field: u32,
         n: u32,

@@ -8,8 +8,9 @@ pub mod c;
 pub const RECORD_LENGTH: usize = 10850;
 pub const REVEALED_LENGTH: usize = 511;
 
-/// The cells of 64 registers, 7 each; the marks; and the counts.
+/// The cells of 64 registers, 7 each, and of one party's column, 1 each; the marks; and the counts.
 pub const REGISTERS_LENGTH: usize = 448;
+pub const CELLS_LENGTH: usize = 64;
 pub const MARKS_LENGTH: usize = 64;
 pub const COUNTS_LENGTH: usize = 6;
 
@@ -63,6 +64,39 @@ pub fn forecast(head: &[u8]) -> (u32, u64) {
     let mut place = 0;
     let number = unsafe { c::jundrethol_forecast(&mut place, head.as_ptr(), head.len()) };
     (number, place)
+}
+
+/// One party's column: the number; the party's share in register r at place r; the counts as in a run.
+pub struct Replayed {
+    pub number: u32,
+    pub cells: [u32; CELLS_LENGTH],
+    pub counts: [u64; COUNTS_LENGTH],
+}
+
+/// The party's column of the run that wrote the record, from header and script and its part of the column form.
+pub fn replay(party: u32, head: &[u8], part: &[u8], record: &[u32]) -> Replayed {
+    let mut replayed = Replayed { number: 0, cells: [0; CELLS_LENGTH], counts: [0; COUNTS_LENGTH] };
+    replayed.number = replay_lent(party, head, part, record, &mut replayed.cells, &mut replayed.counts);
+    replayed
+}
+
+/// The replay with lists of any length for cells and counts.
+pub fn replay_lent(party: u32, head: &[u8], part: &[u8], record: &[u32], cells: &mut [u32], counts: &mut [u64]) -> u32 {
+    unsafe {
+        c::jundrethol_replay(
+            party,
+            head.as_ptr(),
+            head.len(),
+            part.as_ptr(),
+            part.len(),
+            record.as_ptr(),
+            record.len(),
+            cells.as_mut_ptr(),
+            cells.len(),
+            counts.as_mut_ptr(),
+            counts.len(),
+        )
+    }
 }
 
 /// A refusal's number is the error.

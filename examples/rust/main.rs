@@ -1,6 +1,6 @@
 //! The paper's MUL sheet through the C ABI: how its run would end, the run, and the run once more with a firm's machine down; a secret shared, recovered
-//! and summed, numbers encoded and decoded, calls taken from an exchange's list, and the sheet cut into the parties' parts and put together again. Exits
-//! with 1 if an answer is wrong.
+//! and summed, numbers encoded and decoded, calls taken from an exchange's list, the sheet cut into the parties' parts and put together again, and one
+//! firm's column replayed from its part and the record. Exits with 1 if an answer is wrong.
 mod jundrethol;
 
 use std::process::exit;
@@ -198,6 +198,71 @@ fn cut_and_join() {
     expect(short == filled(), "a refusal writes nothing");
 }
 
+fn replay(party: u32, pieces: &Pieces, record: &[u32]) -> jundrethol::Replayed {
+    jundrethol::replay(party, pieces.head, pieces.parts[party as usize - 1], record)
+}
+
+/// The script sets registers 0 to 2.
+fn print_replay(what: &str, replayed: &jundrethol::Replayed) {
+    let [place, inputs, masks, triples, openings, _] = replayed.counts;
+    let [first, second, third, ..] = replayed.cells;
+    let end = format!("end {} at {place} inputs {inputs} masks {masks} triples {triples} openings {openings}", replayed.number);
+    println!("replay by {what}: cells {first} {second} {third} {end}");
+}
+
+/// Number, column and counts are those of the run.
+fn as_run(party: usize, replayed: &jundrethol::Replayed, ran: &jundrethol::Ran) -> bool {
+    let column = ran.registers.chunks(7).map(|row| row[party - 1]);
+    replayed.number == ran.number && replayed.cells.into_iter().eq(column) && replayed.counts == ran.counts
+}
+
+fn replay_damaged(pieces: &Pieces, whole: [u32; 9]) {
+    // Party 3's share of the second opening is 4: 2 3 5 are on no line. MUL is undone.
+    let mut record = whole;
+    record[5] = 5;
+    let replayed = replay(2, pieces, &record);
+    print_replay("party 2, a share of party 3 changed", &replayed);
+    expect((replayed.number, replayed.counts[0]) == (42, 4), "a changed share is found");
+    expect(replayed.cells[1..3] == [11, 0], "what was before MUL stands, and MUL is undone");
+    // 1 2 3 are on a line, but party 2 opened 6.
+    let mut record = whole;
+    record[..3].copy_from_slice(&[1, 2, 3]);
+    let replayed = replay(2, pieces, &record);
+    print_replay("party 2, a row exchanged", &replayed);
+    expect((replayed.number, replayed.counts[0]) == (41, 4), "the own share is compared");
+    // REVEAL's opening lacks a number.
+    let replayed = replay(2, pieces, &whole[..8]);
+    print_replay("party 2, a number cut off", &replayed);
+    expect((replayed.number, replayed.counts[0]) == (43, 8), "a short record is found");
+    expect(replayed.cells[2] == 12, "MUL stands");
+}
+
+fn replay_column() {
+    let sheet = make_sheet();
+    let mut columns = vec![0; sheet.len()];
+    expect(jundrethol::to_columns(&sheet, &mut columns) == Ok(()), "the sheet has a column form");
+    let pieces = cut(&columns);
+    let (all, whole, _) = run_with(EVERYONE);
+    let replayed = replay(2, &pieces, &whole);
+    print_replay("party 2", &replayed);
+    expect(as_run(2, &replayed, &all), "party 2's column is that of the run");
+    let (absent, record, _) = run_with(PARTY_1_ABSENT);
+    let replayed = replay(2, &pieces, &record);
+    print_replay("party 2, party 1 absent", &replayed);
+    expect(as_run(2, &replayed, &absent), "and with party 1 absent");
+    let replayed = replay(1, &pieces, &record);
+    print_replay("party 1, itself absent", &replayed);
+    expect(as_run(1, &replayed, &absent), "an absent own share is not compared");
+    replay_damaged(&pieces, whole);
+    // A whole sheet is no head, and there is no party 4; of a list that is too short the rest stays.
+    let (mut cells, mut counts) = ([99; 2], [99; 3]);
+    let number = jundrethol::replay_lent(2, &sheet, pieces.parts[1], &whole, &mut cells[..1], &mut counts[..2]);
+    expect(number == 4, "a whole sheet is longer than its head");
+    expect(cells == [0, 99] && counts == [0, 0, 99], "what has no place is not written");
+    let none = jundrethol::replay(4, pieces.head, pieces.parts[1], &whole);
+    expect(none.number == 3 && none.cells == [0; jundrethol::CELLS_LENGTH], "there is no party 4");
+}
+
 fn main() {
     forecast_run();
     run_sheet();
@@ -206,4 +271,5 @@ fn main() {
     encode_and_decode();
     import_calls();
     cut_and_join();
+    replay_column();
 }

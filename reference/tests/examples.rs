@@ -104,10 +104,10 @@ fn quoted_bytes(line: &str) -> Option<(usize, Vec<u8>)> {
     Some((offset, bytes.collect()))
 }
 
-/// A line that the examples in C and Rust print of the column form, as `put together 82 bytes same`, or
-/// of a run with a party absent.
+/// A line that the examples in C and Rust print of the column form, as `put together 82 bytes same`, of
+/// a run with a party absent, or of a replay.
 fn is_of_the_programs(line: &str) -> bool {
-    ["part ", "put together ", "party 1 absent: "]
+    ["part ", "put together ", "party 1 absent: ", "replay by "]
         .iter()
         .any(|words| line.starts_with(words))
 }
