@@ -1,1 +1,3 @@
 pub mod Lines
+pub mod Owning
+pub mod Answers

@@ -32,7 +32,7 @@ pub struct Header {
     pub script: usize,
 }
 
-fn read_numbers(s: &[u8]) -> Header
+pub fn read_numbers(s: &[u8]) -> Header
     requires { ⌜ 11 ≤ length (now s) ⌝ }
     ensures { λ r. ⌜ told r ≡ Sheet.headerOf (now (s .entry)) ⌝ }
 {
@@ -112,7 +112,7 @@ fn run_frame_of(h: Header, present: u32) -> Frame
 }
 
 // 1, 2, 3 or 0.
-fn header_number(s: &[u8]) -> u32
+pub fn header_number(s: &[u8]) -> u32
     ensures { λ r. ⌜ r ≡ firstFailed (Sheet.headerTests (now (s .entry))) ⌝ }
 {
     if s.len() < HEADER_SIZE {
