@@ -3,7 +3,7 @@
 mod files;
 
 use files::text;
-use reference::{calls, case, cases, columns, forecast, sheets, steps};
+use reference::{calls, case, cases, columns, forecast, replay, sheets, steps};
 
 /// The number that stands between these words in the program of this crate.
 fn number(name: &str, before: &str, after: &str) -> usize {
@@ -43,5 +43,19 @@ fn stored_runs_are_no_more_than_the_program_takes_and_fit_its_buffers() {
     for case in cases {
         assert!(case.sheet.len() <= room);
         assert!(case.record <= record && case.revealed <= revealed);
+    }
+}
+
+/// Program replay_cases too; its room takes head, part and the record's bytes.
+#[test]
+fn stored_replays_are_no_more_than_the_program_takes_and_fit_its_buffers() {
+    let cases = replay::stored::all();
+    assert!(cases.len() <= number("replay_cases", "let mut left = ", "usize;"));
+    let room = number("replay_cases", "let mut room = [0u8; ", "];");
+    let record = number("replay_cases", "let mut log = [0u32; ", "];");
+    for case in cases {
+        let numbers = case.record.len();
+        assert!(case.head.len() + case.part.len() + 4 * numbers <= room);
+        assert!(numbers <= record);
     }
 }

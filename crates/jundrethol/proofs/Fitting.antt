@@ -1,4 +1,4 @@
--- Laws of lent lists: a loop that wrote what fits; cells as rows; marks as numbers; and the outcome from what was written.
+-- Laws of lent lists: a loop that wrote what fits; cells as rows; marks as numbers; and the outcome and the replay from what was written.
 -- Assumes nothing.
 use mathlib.Core.Path.{_≡_, refl, sym, ap, subst, _∙_}
 use mathlib.Core.Bool.{Bool, false, cond}
@@ -11,10 +11,12 @@ use lib.Seq.{take-all}
 use Rattle.algebra.specs.Lists.{onto}
 use Rattle.algebra.proofs.Lists.{Writing, writing-start, writing-more, writing-end, writing-length}
 use Rattle.model.specs.Bytes.{sevens}
+use Rattle.model.specs.Counts.{Counts, listed}
 use Rattle.model.specs.Run.{Outcome}
+use Rattle.model.specs.Replay.{Replayed}
 use Rattle.machine.specs.declared.run.Answer.{Answer}
 use Rattle.machine.specs.Answers.{outcomeOf}
-use Rattle.jundrethol.specs.Lent.{lent, joined, flags, Delivered, Handed}
+use Rattle.jundrethol.specs.Lent.{lent, joined, flags, Delivered, Handed, HandedReplay}
 
 -- A loop that writes the first n numbers of vs over the start of xs, n being the smaller of their lengths, one law for each of its needs.
 pub record Lending (vs xs : List ℕ) (n j : ℕ) (l : List ℕ) : Type 0 where
@@ -83,3 +85,11 @@ module _ (a : Answer) {log shown : List ℕ} {o : Outcome} {cells₀ cells marks
         marks = L .marks;
         counts = L .counts;
       })
+
+module _ {number place : ℕ} {own : List ℕ} {spent : Counts} {o : Replayed} {cells₀ cells counts₀ counts : List ℕ} where
+  pub handed-replay : record { number = number; place = place; cells = own; counts = spent } ≡ o
+      → cells ≡ lent own cells₀
+      → counts ≡ lent (place ∷ listed spent) counts₀
+      → HandedReplay o number cells₀ cells counts₀ counts
+  handed-replay e f g =
+      subst (λ (x : Replayed). HandedReplay x number cells₀ cells counts₀ counts) e (record { number = refl; cells = f; counts = g })

@@ -1,5 +1,5 @@
--- What the C ABI leaves in lists that C lends: the paper gives registers, marks and counts no lent list, so what a short one takes is said here; and an
--- import and a forecast as C gets them.
+-- What the C ABI leaves in lists that C lends: the paper gives registers, marks, a replay's cells and counts no lent list, so what a short one takes is
+-- said here; and an import and a forecast as C gets them.
 -- Assumes nothing.
 use mathlib.Core.Path.{_≡_}
 use mathlib.Core.Bool.{Bool, cond}
@@ -12,6 +12,7 @@ use Rattle.model.specs.Counts.{listed}
 use Rattle.model.specs.Run.{Outcome}
 use Rattle.model.specs.Calls.{Imported}
 use Rattle.model.specs.Forecast.{Forecast}
+use Rattle.model.specs.Replay.{Replayed}
 use Rattle.costs.specs.Costing.{countsOf}
 use Rattle.machine.specs.declared.run.Answer.{Answer}
 
@@ -43,6 +44,12 @@ pub record Handed (o : Outcome) (n : ℕ) (log₁ shown₁ cells₀ cells₁ mar
   pub revealed : shown₁ ≡ o .revealed
   pub registers : cells₁ ≡ lent (joined (o .registers)) cells₀
   pub marks : marks₁ ≡ lent (flags (o .marks)) marks₀
+  pub counts : counts₁ ≡ lent (o .place ∷ listed (o .counts)) counts₀
+
+-- The replay o as C gets it: the number; and in two lent lists, of which the first of each pair is what stood there before the call, cells and counts.
+pub record HandedReplay (o : Replayed) (n : ℕ) (cells₀ cells₁ counts₀ counts₁ : List ℕ) : Type 0 where
+  pub number : n ≡ o .number
+  pub cells : cells₁ ≡ lent (o .cells) cells₀
   pub counts : counts₁ ≡ lent (o .place ∷ listed (o .counts)) counts₀
 
 -- an import: the number, how many calls were written, and the list of their seconds to its last number

@@ -22,11 +22,11 @@ fn flag(set: bool) -> u8
     if set { 1 } else { 0 }
 }
 
-// Register r's cells are those from 7r on.
-pub fn put_cells(part: &mut [u32], cells: [u32; 448])
-    ensures { λ _. ⌜ now (part .exit) ≡ lent cells (now (part .entry)) ⌝ }
+// A run's cells, of which register r has those from 7r on, and a replay's, one for each register.
+pub fn put_cells(part: &mut [u32], cells: &[u32])
+    ensures { λ _. ⌜ now (part .exit) ≡ lent (now (cells .entry)) (now (part .entry)) ⌝ }
 {
-    let count = least(448, part.len());
+    let count = least(cells.len(), part.len());
     let mut j = 0;
     while j < count {
         part[j] = cells[j];
@@ -70,7 +70,7 @@ pub fn hand(answer: Answer, registers: &mut [u32], marks: &mut [u8], counts: &mu
     ensures { λ _. ⌜ Delivered answer (now (registers .entry)) (now (registers .exit)) (now (marks .entry)) (now (marks .exit)) (now (counts .entry)) (now (counts .exit)) ⌝ }
 {
     let cells = answer.table.cells;
-    put_cells(registers, cells);
+    put_cells(registers, &cells[..]);
     let spent = answer.table.spent;
     let set = spent.marks;
     put_marks(marks, set);

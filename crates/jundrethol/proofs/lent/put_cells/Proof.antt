@@ -15,13 +15,13 @@ abbrev μ-loop : tie.MeasureT-loop
 μ-loop part₀ cells count j₀ part j = count - j
 
 loop-holds : tie.Need-loop-holds Inv-loop μ-loop
-loop-holds c = lending-start _ _ _ 448 (search needs) (c .least .ensures)
+loop-holds c = lending-start _ _ _ _ refl (c .least .ensures)
 
 slice-write-part : tie.Need-slice-write-part Inv-loop μ-loop
-slice-write-part c = let L = c .before .loop .inv in omega (arith, lending-length L, L .places)
+slice-write-part c = let L = c .before .before .loop .inv in omega (arith, lending-length L, L .places)
 
 loop-again : tie.Need-loop-again Inv-loop μ-loop
-loop-again c = lending-more (c .before .loop .inv) (omega arith) refl
+loop-again c = lending-more (c .before .before .loop .inv) (omega arith) refl
 
 same-length : tie.Need-same-length Inv-loop μ-loop
 same-length c = lending-length (c .before .loop .inv)
