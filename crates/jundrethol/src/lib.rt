@@ -8,7 +8,8 @@ ghost use Rattle.model.specs.Run as Run;
 ghost use Rattle.model.specs.Calls as Calls;
 ghost use Rattle.model.specs.Columns.{columnForm, sheetForm, turnNumber, outputLeft};
 ghost use Rattle.model.specs.Forecast as Forecast;
-ghost use Rattle.jundrethol.specs.Lent.{Handed, asImported, asForecast};
+ghost use Rattle.model.specs.Replay as Replay;
+ghost use Rattle.jundrethol.specs.Lent.{Handed, HandedReplay, asImported, asForecast};
 use machine::run;
 
 // Runs a sheet, with the byte that says who is present. Opened shares go to the log, the header's record. Registers, marks and counts go to lists of any
@@ -62,6 +63,26 @@ pub extern "C" fn jundrethol_forecast(place: &mut u64, head: &[u8]) -> u32
 {
     let answer = forecasting::forecast(head);
     *place = answer.place as u64;
+    answer.number
+}
+
+// Replays one party's column of a run, from the party's part of the column form and the log, the header's record. Cells and counts go to lists of any
+// length. Answers 0, 1 to 5, 9 to 11, 21 to 24 or 41 to 43.
+#[no_mangle]
+pub extern "C" fn jundrethol_replay(
+    party: u32,
+    head: &[u8],
+    part: &[u8],
+    log: &[u32],
+    cells: &mut [u32],
+    counts: &mut [u64],
+) -> u32
+    ensures { λ r. ⌜ HandedReplay (Replay.replay party (now (head .entry)) (now (part .entry)) (now (log .entry))) r (now (cells .entry)) (now (cells .exit)) (now (counts .entry)) (now (counts .exit)) ⌝ }
+{
+    let answer = replay::replay(party, head, part, log);
+    let own = answer.cells;
+    lent::put_cells(cells, &own[..]);
+    lent::put_counts(counts, answer.place, answer.counts);
     answer.number
 }
 
