@@ -25,6 +25,16 @@ pub struct Stopped {
     pub table: Table,
 }
 
+fn ending(number: u32, place: usize, table: Table) -> Stopped
+    ensures { λ r. ⌜ r ≡ record { number = number; place = place; table = table } ⌝ }
+{
+    Stopped {
+        number,
+        place,
+        table,
+    }
+}
+
 // A script that 9 to 11 do not refuse, command by command: "Before each command it tries 21 to 24", and a refusal inside a command leaves the table before it.
 pub fn replay_lines(own: Own, f: Frame, script: &[u8], part: &[u8], log: &[u32]) -> Stopped
     requires { ⌜ Prepared own f (now script) (now part) ⌝ }
@@ -36,31 +46,19 @@ pub fn replay_lines(own: Own, f: Frame, script: &[u8], part: &[u8], log: &[u32])
     loop {
         let found = decode::decode(f.p, f.largest, script, at);
         let Decoded::Command(c, next) = found else {
-            return Stopped {
-                number: decode::end_of(found).number,
-                place: at,
-                table,
-            };
+            return ending(decode::end_of(found).number, at, table);
         };
         let need = cost::cost_of(f, c);
         let before = table.spent;
         let number = check::check(before, supply, need);
         if number != 0 {
-            return Stopped {
-                number,
-                place: at,
-                table,
-            };
+            return ending(number, at, table);
         }
         let done = perform::perform(table, own, part, log, c);
-        if done.number != 0 {
-            return Stopped {
-                number: done.number,
-                place: at,
-                table,
-            };
-        }
         let after = done.table;
+        if done.number != 0 {
+            return ending(done.number, at, table);
+        }
         table = after.paid(need);
         at = next;
     }

@@ -18,7 +18,7 @@ loop-holds : tie.Need-loop-holds Inv-loop μ-loop
 loop-holds c = search (going-start, arith)
 
 returns : tie.Need-returns Inv-loop μ-loop
-returns c = search ended
+returns c = rw (c .ending .ensures) (search ended)
 
 cost-of-requires : tie.Need-cost-of-requires Inv-loop μ-loop
 cost-of-requires c κs = costed (c .before .before .before .before .loop .inv) (c .before .before .before .decode .ensures) (c .before .found .given .1)
@@ -27,13 +27,22 @@ check-requires : tie.Need-check-requires Inv-loop μ-loop
 check-requires c κs = search checked
 
 returns-2 : tie.Need-returns-2 Inv-loop μ-loop
-returns-2 c = search refused-here
+returns-2 c = rw (c .ending2 .ensures) (search refused-here)
 
 perform-requires : tie.Need-perform-requires Inv-loop μ-loop
 perform-requires c κs = search ready-here
 
 returns-3 : tie.Need-returns-3 Inv-loop μ-loop
-returns-3 c = search refused-inside
+returns-3 c =
+    let done = c .before in
+    let call = done .before .before .before in
+    let on = call .before in
+    let check = on .before in
+    let cost = check .before .before in
+    let found = cost .before .before in
+    let decode = found .before .before in
+    rw (c .ending3 .ensures)
+    (refused-inside (decode .before .loop .inv) (decode .decode .ensures) (found .found .given .1) (cost .cost-of .ensures) (check .check .ensures) (on .if1 .left) (call .perform .ensures .0) (done .if2 .taken))
 
 paid-requires : tie.Need-paid-requires Inv-loop μ-loop
 paid-requires c κs =
@@ -50,8 +59,8 @@ loop-less c = closer (c .before .before .before .before .before .before .before 
 
 loop-again : tie.Need-loop-again Inv-loop μ-loop
 loop-again c =
-    let done = c .before .before in
-    let call = done .before .before in
+    let done = c .before in
+    let call = done .before .before .before in
     let on = call .before in
     let check = on .before in
     let cost = check .before .before in
@@ -64,4 +73,4 @@ pub replay-lines-spec : {M : Type 1} → statement M
 replay-lines-spec =
     tie.close
     (tie.spec Inv-loop μ-loop (λ c κs. search needs) (λ c κs. search needs) loop-holds (λ c κs. search needs) (λ c. search needs) (λ c. search needs)
-    (λ c κs. search needs) returns cost-of-requires check-requires returns-2 perform-requires returns-3 paid-requires loop-less loop-again)
+    (λ c κs. search needs) (λ c κs. search needs) returns cost-of-requires check-requires (λ c κs. search needs) returns-2 perform-requires (λ c κs. search needs) returns-3 paid-requires loop-less loop-again)
