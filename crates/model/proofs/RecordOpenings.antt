@@ -4,7 +4,7 @@ use mathlib.Core.Path.{_≡_, refl, sym, ap, _∙_}
 use mathlib.Core.Logic.{_≢_}
 use mathlib.Core.Bool.{Bool, true, false, _||_, cond}
 use mathlib.Core.List.{List, [], _∷_, List·Memᴰ as In, List·Memᴰ·head as here, List·Memᴰ·tail as there}
-use Prim.Native.Nat.{ℕ, zero, suc, _+_, _≤_, _<_}
+use Prim.Native.Nat.{ℕ, zero, suc, _+_, _-_, _≤_, _<_}
 use native.Mathlib.Decide.{decLt, ℕ-discrete}
 use native.Mathlib.Omega.{arith}
 use borrow.Author.Tests.{le-leb, lt-leb, eq-eqb, ne-eqb}
@@ -13,7 +13,7 @@ use lib.ListN.{length, getD, take}
 use lib.Seq.{length-take-le}
 use Rattle.algebra.specs.Lists.{allBelow, Distinct, from}
 use Rattle.algebra.proofs.Lists.{all-below, below-any, in-from, from-in}
-use Rattle.algebra.proofs.Rows.{row-past}
+use Rattle.algebra.proofs.Rows.{row-at, row-past}
 use Rattle.algebra.proofs.Tests.{and-left, and-right, and-both, is-true}
 use Rattle.model.specs.Fields.{Modulus, modulus, InUse, Parties}
 use Rattle.model.specs.Sharing.{eval, at}
@@ -218,6 +218,14 @@ module _ (f n t j own : ℕ) (log : List ℕ) (U : InUse f) (P : Parties n t) (l
   unfolding opening
   past j h = row-past n _ j h
 
+  numbers-are : (i : ℕ) → 1 ≤ i → i ≤ n → at 0 x i ≡ getD log (i - 1) 0
+  unfolding opening
+  numbers-are zero l u = absurd (omega arith)
+  numbers-are (suc i) l u = row-at n _ i (omega arith) ∙ ap (λ (k : ℕ). getD log k 0) (back i)
+    where
+      back : (i : ℕ) → i ≡ suc i - 1
+      back i = omega arith
+
   -- the own share, where the tests before it pass
   own-left : n ≤ length log → OnOne p n t x → openingNumber p n t j own log ≡ firstFailed ((eqb (at 0 x j) p || eqb (at 0 x j) own, 41) ∷ [])
   unfolding openingTests
@@ -239,6 +247,7 @@ module _ (f n t j own : ℕ) (log : List ℕ) (U : InUse f) (P : Parties n t) (l
   unfolding openedValue firstFailed
   openings =
       record {
+        numbers-are = numbers-are;
         too-short = too-short;
         not-on-one = not-on-one;
         differs = λ h o there other. own-left h o ∙ rw (ne-eqb (at 0 x j) p there, ne-eqb (at 0 x j) own other);

@@ -21,9 +21,9 @@ use Rattle.model.specs.Commands.{Ended, throughLines}
 use Rattle.model.specs.Sheet.{Header, headerOf, inputsAt, limits, headerTests, limitTests}
 use Rattle.model.specs.Columns.{partLength, sharesIn}
 use Rattle.model.specs.Forecast.{headLengthTests}
-use Rattle.model.specs.Replay.{replayLines, partyTests, partLengthTests, ownShareTests, replayTests, nothingReplayed, replayScript, replay}
-use Rattle.model.specs.Replays.{ReplayReady, BeforeReplay, ByLines}
-use Rattle.model.proofs.Trying.{given-refused, numbered, passes, fails, first-decide, others-decide, front-passes, others-pass, all-pass, both-pass}
+use Rattle.model.specs.Replay.{Read, ownShare, openingNumber, fromRecord, byRecord, replayLines, partyTests, partLengthTests, ownShareTests, replayTests, nothingReplayed, replayScript, replay}
+use Rattle.model.specs.Replays.{ReplayReady, BeforeReplay, AtOpening, ByNodes, ByLines}
+use Rattle.model.proofs.Trying.{given-refused, given-done, numbered, passes, fails, first-decide, others-decide, front-passes, others-pass, all-pass, both-pass}
 use Rattle.model.proofs.Lengths.{header-numbered}
 
 -- one test alone
@@ -150,6 +150,7 @@ module _ (j : ℕ) (head part log : List ℕ) where
         lengths-next = lengths-next;
         shares-next = shares-next;
         script-next = λ number place R q. rw (ready-passes j head part R, q) refl;
+        lines-last = λ xs end R q. rw (ready-passes j head part R, q) refl;
       }
 
 -- The lines of a replay: at their end, refused before a command or inside it, or gone on with what it leaves.
@@ -162,4 +163,22 @@ by-lines S j u input end s g d log =
       refused-before = λ x xs z. ap (λ (f : Deal → List ℕ → Ended Row). f d log) (given-refused (check u (cost S (x .command)) s) _ _ z);
       refused-inside = λ x xs number e k. rw (e, k) refl;
       goes-on = λ x xs g′ d′ log′ e k. rw (e, k) refl;
+    }
+
+-- The openings of a replay, node by node.
+module _ (S : Setting) (j : ℕ) (log : List ℕ) where
+  at-opening : (x : Row) (go : ℕ → List ℕ → Read (List Row)) → AtOpening S j x log go (fromRecord S j x log go)
+  unfolding fromRecord
+  at-opening x go =
+      record { refused = λ z. given-refused (openingNumber (S .p) (S .n) (S .t) j (ownShare x) log) _ _ z; goes-on = λ e. given-done (openingNumber (S .p) (S .n) (S .t) j (ownShare x) log) _ _ e }
+
+pub by-nodes : (S : Setting) (j : ℕ) (d : Deal) (log : List ℕ) → ByNodes S j d log
+unfolding byRecord
+by-nodes S j d log =
+    record {
+      opens = at-opening S j log;
+      ends = λ g. refl;
+      multiplies = λ left right go. at-opening S j log _ _;
+      masks = λ x go. at-opening S j log _ _;
+      reveals = λ x rest. at-opening S j log _ _;
     }

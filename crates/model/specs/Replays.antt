@@ -4,26 +4,26 @@
 use mathlib.Core.Path.{_≡_}
 use mathlib.Core.Logic.{_≢_, _⊎_}
 use mathlib.Core.List.{List, [], _∷_, _++_, map, List·Memᴰ as In}
-use Prim.Native.Nat.{ℕ, suc, _*_, _≤_, _<_}
-use lib.ListN.{length, take}
+use Prim.Native.Nat.{ℕ, suc, _-_, _*_, _≤_, _<_}
+use lib.ListN.{length, getD, take, drop, replicate}
 use Rattle.algebra.specs.Lists.{Below}
 use Rattle.model.specs.Fields.{modulus, InUse, Parties}
 use Rattle.model.specs.Sharing.{eval, at}
 use Rattle.model.specs.Shamir.{Group}
 use Rattle.model.specs.Refusing.{firstFailed}
-use Rattle.model.specs.Deal.{Setting, Row, Deal}
-use Rattle.model.specs.Trees.{done}
-use Rattle.model.specs.Script.{Line, Script, accepted, refused}
+use Rattle.model.specs.Deal.{Setting, Row, Deal, noRow}
+use Rattle.model.specs.Trees.{Tree, done, multiply, mask, reveal}
+use Rattle.model.specs.Steps.{minus, nextTriple, nextMask, lessTriple, lessMask, beaver, underMask}
+use Rattle.model.specs.Script.{Line, accepted, refused}
 use Rattle.model.specs.Costs.{cost}
 use Rattle.model.specs.Checks.{Spent, Supply, check, pay}
-use Rattle.model.specs.Commands.{Ended}
-use Rattle.model.specs.Sheet.{Header, headerOf, inputsAt, headerTests, limitTests}
-use Rattle.model.specs.Run.{Outcome, rowCommand, sheetScript, run}
+use Rattle.model.specs.Sheet.{headerOf, settingOf, inputsAt, headerTests, limitTests}
+use Rattle.model.specs.Run.{Outcome, rowCommand, nothingSpent, sheetScript, run}
 use Rattle.model.specs.Exactness.{Accepted}
 use Rattle.model.specs.Refusals.{From}
 use Rattle.model.specs.Columns.{columnForm, partLength, partOf, sharesIn}
-use Rattle.model.specs.Forecast.{headIn, foreseen}
-use Rattle.model.specs.Replay.{stopped, finished, oneColumn, opening, openedValue, openingNumber, byRecord, replayLines, Replayed, nothingReplayed, replay}
+use Rattle.model.specs.Forecast.{headIn, ampleSupply, foreseen}
+use Rattle.model.specs.Replay.{Read, stopped, finished, oneColumn, ownShare, opening, openedValue, openingNumber, fromRecord, byRecord, replayLines, partInput, partDeal, Replayed, nothingReplayed, replayedBy, replay}
 
 -- party j's part of an outcome: "column j and the same counts", with number and place
 abbrev pub columnOf : ℕ → Outcome → Replayed
@@ -47,8 +47,10 @@ pub record OnOne (p n t : ℕ) (x : Row) : Type 0 where
   pub below : Below p poly
   pub takes : (i : ℕ) → 1 ≤ i → i ≤ n → at 0 x i ≢ p → eval p poly i ≡ at 0 x i
 
--- The next opening of a record, its own share of what is opened being own: "43 the record is too short; then 42 …; then 41 the own share differs".
+-- The next opening of a record, the own share of what is opened being own: "43 the record is too short; then 42 …; then 41 the own share differs".
 pub record Openings (p n t j own : ℕ) (log : List ℕ) : Type 0 where
+  -- the record's next n numbers, party 1's first
+  pub numbers-are : (i : ℕ) → 1 ≤ i → i ≤ n → at 0 (opening p n t log) i ≡ getD log (i - 1) 0
   pub too-short : length log < n → openingNumber p n t j own log ≡ 43
   pub not-on-one : n ≤ length log → (OnOne p n t (opening p n t log) → ⊥) → openingNumber p n t j own log ≡ 42
   pub differs : n ≤ length log → OnOne p n t (opening p n t log) → at 0 (opening p n t log) j ≢ p → at 0 (opening p n t log) j ≢ own
@@ -84,6 +86,34 @@ pub record BeforeReplay (j : ℕ) (head part log : List ℕ) : Type 0 where
   -- then the script, with the place of the refusal
   pub script-next : (number place : ℕ) → ReplayReady j head part → sheetScript head ≡ refused number place
       → replay j head part log ≡ nothingReplayed number place
+  -- else the lines are gone over, from the start, with the shares of the part
+  pub lines-last : (xs : List Line) (end : ℕ) → ReplayReady j head part → sheetScript head ≡ accepted xs end
+      → let h = headerOf head in
+      replay j head part log
+      ≡ replayedBy (replayLines (settingOf h) j (ampleSupply h) (partInput h part) end xs nothingSpent (replicate 64 noRow) (partDeal h part) log)
+
+-- An opening of the row x, of one share: r is its refusal, by `openingNumber`; or what follows goes on with its value, and with the record after its n numbers.
+pub record AtOpening (S : Setting) (j : ℕ) (x : Row) (log : List ℕ) (go : ℕ → List ℕ → Read (List Row)) (r : Read (List Row)) : Type 0 where
+  pub refused : openingNumber (S .p) (S .n) (S .t) j (ownShare x) log ≢ 0 → r ≡ stopped (openingNumber (S .p) (S .n) (S .t) j (ownShare x) log)
+  pub goes-on : openingNumber (S .p) (S .n) (S .t) j (ownShare x) log ≡ 0
+      → r ≡ go (openedValue (S .p) (S .n) (S .t) (opening (S .p) (S .n) (S .t) log)) (drop (S .n) log)
+
+-- "at each opening": MUL opens a1, and then b1; a masked opening C; REVEAL its row. Each is refused before the next is looked at. The trees are those of
+-- commands, which end with registers; d is what is left of the deal.
+pub record ByNodes (S : Setting) (j : ℕ) (d : Deal) (log : List ℕ) : Type 0 where
+  pub opens : (x : Row) (go : ℕ → List ℕ → Read (List Row)) → AtOpening S j x log go (fromRecord S j x log go)
+  pub ends : (g : List Row) → byRecord S j (done g) d log ≡ finished g d log
+  pub multiplies : (left right : Row) (go : Row → Tree Row (List Row))
+      → let own = oneColumn S in
+      let t = nextTriple own d in
+      AtOpening S j (minus own left (t .a)) log
+      (λ a1 log₁. fromRecord S j (minus own right (t .b)) log₁ (λ b1 log₂. byRecord S j (go (beaver own a1 b1 t)) (lessTriple d) log₂))
+      (byRecord S j (multiply left right go) d log)
+  pub masks : (x : Row) (go : ℕ → List Row → Tree Row (List Row))
+      → let own = oneColumn S in
+      let r = nextMask own d in
+      AtOpening S j (underMask own x r) log (λ C log₁. byRecord S j (go C r) (lessMask d) log₁) (byRecord S j (mask x go) d log)
+  pub reveals : (x : Row) (rest : Tree Row (List Row)) → AtOpening S j x log (λ v log₁. byRecord S j rest d log₁) (byRecord S j (reveal x rest) d log)
 
 -- the lines from what was spent (s), the registers g, the deal d and the record on
 pub record ByLines (S : Setting) (j : ℕ) (u : Supply) (input : List Row) (end : ℕ) (s : Spent) (g : List Row) (d : Deal) (log : List ℕ) : Type 0 where
@@ -122,6 +152,7 @@ pub record Replays : Type 0 where
   pub before : (j : ℕ) (head part log : List ℕ) → BeforeReplay j head part log
   pub by-lines : (S : Setting) (j : ℕ) (u : Supply) (input : List Row) (end : ℕ) (s : Spent) (g : List Row) (d : Deal) (log : List ℕ)
       → ByLines S j u input end s g d log
+  pub by-nodes : (S : Setting) (j : ℕ) (d : Deal) (log : List ℕ) → ByNodes S j d log
   pub openings : (f n t j own : ℕ) (log : List ℕ) → InUse f → Parties n t → 1 ≤ j → j ≤ n → Openings (modulus f) n t j own log
   -- where the record does not refuse, number, place and counts are those of the forecast of the same header and script: so 25 and 26 never come
   pub as-foreseen : (j : ℕ) (head part log : List ℕ) → ReplayReady j head part
