@@ -1,7 +1,7 @@
 /* How deep the stack goes in a run of each sheet named, with everyone present and with party 1 absent, in the forecast of its header and script, in
  * turning it to its column form and back, in party 2's replay of the second run, in each small entry, and in an import: a call is made on a stack that
  * was filled with one byte, and the lowest byte that changed tells. Two fillings, so that a byte that happens to be the filling is seen. Exits with 1 if
- * a call goes deeper than JUNDRETHOL_STACK, answers another number than it must, or a sheet cannot be read. */
+ * a call goes deeper than JUNDRETHOL_STACK, or the replay than JUNDRETHOL_REPLAY_STACK, answers another number than it must, or a sheet cannot be read. */
 #define _GNU_SOURCE
 #include <stdio.h>
 #include <string.h>
@@ -128,12 +128,12 @@ static size_t depth(void (*call)(void), int filling)
 static int fits(const char *name, void (*call)(void), uint32_t number)
 {
     static const int fillings[] = {0xA5, 0x5A};
-    size_t most = 0;
+    size_t most = 0, limit = call == replay ? JUNDRETHOL_REPLAY_STACK : JUNDRETHOL_STACK;
     int good = 1;
     for (int i = 0; i < 2; i++) {
         size_t taken = depth(call, fillings[i]);
         most = taken > most ? taken : most;
-        good &= taken <= JUNDRETHOL_STACK && (number == ANY || answer == number);
+        good &= taken <= limit && (number == ANY || answer == number);
     }
     printf("%s: %zu bytes%s\n", name, most, good ? "" : ", too many or a wrong answer");
     return good;
