@@ -77,6 +77,7 @@ pub in_from : (k m : ℕ) {z : ℕ} → In z (from k m) → (k ≤ z) × (z < k 
 unfolding from
 in_from k (suc m) (here e) = omega arith
 in_from k (suc m) (there i) = omega (arith, in_from (suc k) m i)
+in_from k zero {z = z} x' = elim x' [ ]
 
 pub from_in : (k m z : ℕ) → k ≤ z → z < k + m → In z (from k m)
 unfolding from

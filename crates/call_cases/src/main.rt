@@ -1,5 +1,7 @@
 // Imports the lists of standard input, and prints all that each import leaves. A case is, as reference/src/calls/case.rs has it, two words of
 // 4 bytes, little-endian, the lengths of the list and of the buffer; then the list.
+#![tactic(auto)]
+
 ghost use Rattle.std.specs.Prelude.{◌≤◌, length};
 
 use report::number::{count, line_end, list_line, number};

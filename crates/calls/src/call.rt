@@ -6,7 +6,7 @@ ghost use Rattle.calls.specs.Meaning.{time_of, call_of};
 use crate::time::Time;
 
 // Whether the times are good, and the seconds, 0 where they are not.
-#[derive(Drop)]
+#[derive(Clone, Copy)]
 pub struct Call {
     pub good: bool,
     pub seconds: u32,

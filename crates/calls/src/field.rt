@@ -8,7 +8,7 @@ use crate::letters::{COMMA, DQUOTE};
 use crate::time::{Time, read_time};
 
 // Whether there is a field, its value as a time, and the place after it.
-#[derive(Drop)]
+#[derive(Clone, Copy)]
 pub struct Field {
     pub found: bool,
     pub time: Time,

@@ -1,4 +1,6 @@
 // Calls from an exchange's list: "Members' exchanges export comma-separated lists as RFC 4180 describes".
+#![tactic(auto)]
+
 mod call;
 mod field;
 mod letters;
@@ -12,7 +14,7 @@ ghost use Rattle.calls.specs.Meaning.{line_of, Turned, import_of};
 use crate::line::{Line, read_line};
 
 // "The number (0 when done) and the calls written"
-#[derive(Drop)]
+#[derive(Clone, Copy)]
 pub struct Imported {
     pub number: u32,
     pub calls: usize,
@@ -35,7 +37,7 @@ fn line_number(line: Line, room: usize) -> u32
 }
 
 // What a line leaves: its number, and where that is 0 its call and the place after it.
-#[derive(Drop)]
+#[derive(Clone, Copy)]
 struct Turn {
     number: u32,
     seconds: u32,

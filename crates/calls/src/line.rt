@@ -8,7 +8,7 @@ use crate::field::{read_field, read_next};
 use crate::letters::{CR, LF, both};
 
 // Whether a line ends here, and the place after its line break.
-#[derive(Drop)]
+#[derive(Clone, Copy)]
 struct End {
     found: bool,
     next: usize,
@@ -31,7 +31,7 @@ fn read_end(text: &[u8], at: usize) -> End
 }
 
 // Whether there is a line of four fields, its call, and the place after it.
-#[derive(Drop)]
+#[derive(Clone, Copy)]
 pub struct Line {
     pub found: bool,
     pub call: Call,

@@ -6,7 +6,7 @@ ghost use Rattle.calls.specs.Meaning.{time_of};
 use crate::letters;
 
 // A field's value as a time: none, a second of the quarter, or malformed.
-#[derive(Drop)]
+#[derive(Clone, Copy)]
 pub enum Time {
     Absent,
     At(u32),

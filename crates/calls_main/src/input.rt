@@ -5,7 +5,7 @@ ghost use Rattle.calls_main.specs.Reading.{Within};
 use libc::STDIN_FILENO;
 
 // All bytes up to the input's end; so many that the room is filled, so that the end was not seen; or a read that failed.
-#[derive(Drop)]
+#[derive(Clone, Copy)]
 pub enum Input {
     Whole(usize),
     TooLong,
@@ -13,7 +13,7 @@ pub enum Input {
 }
 
 // What one read brought.
-#[derive(Drop)]
+#[derive(Clone, Copy)]
 struct Part {
     bytes: usize,
     failed: bool,

@@ -1,5 +1,7 @@
 // Runs the cases of standard input, and prints all that each run leaves. A case is, as reference/src/run_case.rs has it, three words of 4 bytes,
 // little-endian, the lengths of the sheet, the record and the revealed list; then the byte that says who is present, and the sheet.
+#![tactic(auto)]
+
 mod outcome;
 
 ghost use Rattle.std.specs.Prelude.{◌≡◌, ◌≤◌, length};

@@ -1,6 +1,8 @@
 // Turns the inputs of standard input over or back, and prints all that each call leaves. A case is, as reference/src/columns/case.rs has it, three
 // words of 4 bytes, little-endian: 0 to the column form or another number to the sheet, and the lengths of the input and of the output; then the
 // input.
+#![tactic(auto)]
+
 ghost use Rattle.std.specs.Prelude.{◌≤◌, length};
 
 use report::number::{line_end, number, put};

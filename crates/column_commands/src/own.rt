@@ -13,7 +13,7 @@ use sharing::rows;
 
 // How its rows are worked and its openings read, the field's largest k, how many inputs there are, and where the first mask and the first triple stand in
 // its part. The first input stands at its start.
-#[derive(Drop)]
+#[derive(Clone, Copy)]
 pub struct Own {
     pub column: Column,
     pub largest: u32,
@@ -23,7 +23,7 @@ pub struct Own {
 }
 
 // The number of a refusal, or 0 and the table that a command leaves.
-#[derive(Drop)]
+#[derive(Clone, Copy)]
 pub struct Done {
     pub number: u32,
     pub table: Table,

@@ -4,7 +4,7 @@ ghost use Rattle.column_form.specs.Grids.{sheet_grid, column_grid, further_on};
 
 // The place of the grid's first share, and how many bytes it is from a share down to the same party's in the next row, and across to the next party's in the
 // same row.
-#[derive(Drop)]
+#[derive(Clone, Copy)]
 pub struct Grid {
     pub first: usize,
     pub down: usize,

@@ -10,7 +10,7 @@ use sheet::header;
 use sheet::header::Read;
 
 // 0, the place of the first share, how many rows there are, and how many parties; or the number of a refusal, and no more.
-#[derive(Drop)]
+#[derive(Clone, Copy)]
 pub struct Layout {
     pub number: u32,
     pub place: usize,

@@ -1,5 +1,7 @@
 // The column form of a sheet and the way back: "the same header and script, then all of party 1's shares (inputs, masks, triples in sheet order),
 // then party 2's, and so on".
+#![tactic(auto)]
+
 mod grid;
 mod layout;
 mod shares;

@@ -7,14 +7,14 @@ use secret::Row;
 use sharing::setting::Setting;
 
 // How rows of one share are worked, and how openings are read from the record.
-#[derive(Drop)]
+#[derive(Clone, Copy)]
 pub struct Column {
     pub setting: Setting,
     pub reader: Reader,
 }
 
 // Where the next mask and the next triple stand in the party's part, and how many openings of the record were read.
-#[derive(Drop)]
+#[derive(Clone, Copy)]
 pub struct Ahead {
     pub mask: usize,
     pub triple: usize,
@@ -22,7 +22,7 @@ pub struct Ahead {
 }
 
 // The number of a refusal, or 0 and the row that a step leaves.
-#[derive(Drop)]
+#[derive(Clone, Copy)]
 pub struct Outcome {
     pub number: u32,
     pub row: Row,

@@ -13,14 +13,14 @@ use script::command::Command;
 use sheet::frame::Frame;
 
 // So many registers, from one on.
-#[derive(Drop)]
+#[derive(Clone, Copy)]
 pub struct Span {
     pub from: usize,
     pub size: usize,
 }
 
 // The registers read, in two spans, and those written; and what is spent.
-#[derive(Drop)]
+#[derive(Clone, Copy)]
 pub struct Cost {
     pub first: Span,
     pub second: Span,

@@ -4,7 +4,7 @@ ghost use Rattle.model.specs.Counts as Paper;
 ghost use Rattle.model.specs.Costs as Costs;
 ghost use Rattle.costs.specs.Costing.{counts_of, left_of, Within, Summing};
 
-#[derive(Drop)]
+#[derive(Clone, Copy)]
 pub struct Counts {
     pub inputs: usize,
     pub masks: usize,

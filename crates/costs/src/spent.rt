@@ -10,7 +10,7 @@ use crate::counts;
 use crate::counts::Counts;
 use sheet::frame::Frame;
 
-#[derive(Drop)]
+#[derive(Clone, Copy)]
 pub struct Spent {
     pub counts: Counts,
     pub marks: [bool; 64],

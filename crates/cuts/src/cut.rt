@@ -12,7 +12,7 @@ use steps::places::Places;
 use steps::remainder;
 
 // The commands that rest on MOD, with their numbers.
-#[derive(Drop)]
+#[derive(Clone, Copy)]
 pub enum Cut {
     Mod { k: u32, m: u32 },
     Trunc { k: u32, m: u32 },

@@ -1,5 +1,7 @@
 // Runs the cases of standard input through the small entries, and prints each case with its answer. A case is 112 bytes, as
 // reference/src/case.rs has it: 28 words of 4 bytes, little-endian.
+#![tactic(auto)]
+
 ghost use Rattle.std.specs.Prelude.{◌+◌, ◌*◌, ◌%◌, ◌^◌, ◌≤◌, min, ◌≡◌, eqb, length};
 ghost use Rattle.field.specs.Signed.{signed_of};
 ghost use Rattle.entries.specs.Words.{word_of, words_of};

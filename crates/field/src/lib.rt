@@ -1,4 +1,6 @@
 // The four fields: their constant table, arithmetic modulo p, and signed numbers as field values.
+#![tactic(auto)]
+
 pub mod arithmetic;
 pub mod coding;
 pub mod table;
@@ -7,14 +9,14 @@ ghost use Rattle.std.specs.Prelude.{◌≡◌};
 ghost use Rattle.model.specs.Entries.{encode_number, encode_value, decode_number, decode_value};
 
 // What encode answers: the paper's number, and the field value, 0 where it refuses.
-#[derive(Drop)]
+#[derive(Clone, Copy)]
 pub struct Encoded {
     pub number: u32,
     pub value: u32,
 }
 
 // What decode answers: the paper's number, and the signed number, 0 where it refuses.
-#[derive(Drop)]
+#[derive(Clone, Copy)]
 pub struct Decoded {
     pub number: u32,
     pub value: i64,

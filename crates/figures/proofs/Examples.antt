@@ -43,6 +43,7 @@ each : (P : ℕ → Type 0) {a b c : ℕ} → P a → P b → P c → (z : ℕ) 
 each P x y w z (here e) = rw e x
 each P x y w z (there (here e)) = rw e y
 each P x y w z (there (there (here e))) = rw e w
+each P {a = a} {b = b} {c = c} x y w z (there (there (there x13))) = elim x13 [ ]
 
 -- one party of three, and three of seven
 pub one_party : (j : ℕ) → 1 ≤ j → j ≤ 3 → Group 3 1 (j ∷ [])
@@ -72,3 +73,4 @@ groups =
     two_apart : (z : ℕ) → In z (4 ∷ 7 ∷ []) → z ≢ 1
     two_apart z (here e) = λ q. omega arith
     two_apart z (there (here e)) = λ q. omega arith
+    two_apart z (there (there x8)) = elim x8 [ ]

@@ -1,4 +1,6 @@
 // Says of the header and script on standard input, or of those of the sheet there, whether a run would come to END, and in words what is missing.
+#![tactic(auto)]
+
 mod amounts;
 mod cutting;
 mod head;

@@ -1,5 +1,7 @@
 // Forecasts the inputs of standard input, and prints number and place of each. A case is, as reference/src/forecast/case.rs has it, a word of 4 bytes,
 // little-endian, the length of the input; then the input.
+#![tactic(auto)]
+
 ghost use Rattle.std.specs.Prelude.{◌≤◌, length};
 
 use report::number::{count, line_end, number};

@@ -1,4 +1,6 @@
 // What a run would come to, "From header and script alone": no row and no share is looked at.
+#![tactic(auto)]
+
 pub mod lines;
 
 ghost use Rattle.std.specs.Prelude.{◌≡◌};
@@ -19,7 +21,7 @@ const RECORD_LENGTH: usize = 10850;
 const REVEALED_LENGTH: usize = 511;
 
 // "It gives number and place."
-#[derive(Drop)]
+#[derive(Clone, Copy)]
 pub struct Answer {
     pub number: u32,
     pub place: usize,

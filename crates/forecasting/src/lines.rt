@@ -13,7 +13,7 @@ use script::decode;
 use sheet::frame::Frame;
 
 // The number and the place at which a run would stop, and what it would have spent and set there.
-#[derive(Drop)]
+#[derive(Clone, Copy)]
 pub struct Foreseen {
     pub number: u32,
     pub place: usize,

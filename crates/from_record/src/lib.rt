@@ -1,4 +1,6 @@
 // One opening read from a record: its numbers are tested, the value is found from them, and the own share is compared.
+#![tactic(auto)]
+
 pub mod shown;
 pub mod windows;
 
@@ -17,7 +19,7 @@ use secret::Row;
 
 // What a party reads a record with: its table's field, parties and threshold, its own number, and how openings are worked by those who are present at the
 // record's first opening. In the record of a run they are present at every opening, so that weights are worked out once.
-#[derive(Drop)]
+#[derive(Clone, Copy)]
 pub struct Reader {
     pub field: usize,
     pub p: u32,
@@ -28,7 +30,7 @@ pub struct Reader {
 }
 
 // The number of an opening, 0 or 41 to 43, and its value, 0 where 42 or 43 refuses.
-#[derive(Drop)]
+#[derive(Clone, Copy)]
 pub struct Opened {
     pub number: u32,
     pub value: u32,

@@ -3,7 +3,7 @@ ghost use Rattle.std.specs.Prelude.{◌≡◌, ◌+◌, ◌*◌, ◌≤◌, ◌<
 ghost use Rattle.from_record.specs.Showing.{Further, ShownIn};
 
 // The row has 0 for an absent share. Where a number is above p, the rest is not looked at.
-#[derive(Drop)]
+#[derive(Clone, Copy)]
 pub struct Shown {
     pub shares: [u32; 7],
     pub present: u32,

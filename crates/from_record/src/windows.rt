@@ -11,7 +11,7 @@ use sharing::setting::Setting;
 
 // How openings are worked by the parties that a byte says are present, and by those of them past party 1, past party 2, and so on, as long as t + 1 are
 // left. Their lowest t + 1 are a window: the windows are all t + 1 neighbours.
-#[derive(Drop)]
+#[derive(Clone, Copy)]
 pub struct Windows {
     pub present: u32,
     pub count: usize,
@@ -74,7 +74,7 @@ fn value_at(p: u32, n: usize, t: usize, windows: Windows, z: usize, row: Row) ->
 }
 
 // The value of the first one, and whether all give it.
-#[derive(Drop)]
+#[derive(Clone, Copy)]
 pub struct Agreed {
     pub value: u32,
     pub same: bool,

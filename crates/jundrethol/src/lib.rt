@@ -1,5 +1,7 @@
 // The library for C, as include/jundrethol.h declares it. A slice is a pointer and a length to C. Nothing is asked of the numbers or of the
 // lengths: a C compiler proves no `requires`.
+#![tactic(auto)]
+
 mod lent;
 
 ghost use Rattle.std.specs.Prelude.{◌≡◌};

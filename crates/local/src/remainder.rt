@@ -22,7 +22,7 @@ pub fn raised_row(setting: Setting, k: u32, a: Row) -> Row
 }
 
 // What is public once C is opened: m, 2^m, C mod 2^m, (C + p) mod 2^m, and the last less the one before it, modulo p.
-#[derive(Drop)]
+#[derive(Clone, Copy)]
 pub struct Publics {
     pub m: usize,
     pub power: u32,

@@ -14,7 +14,7 @@ use sheet::frame::Frame;
 use sheet::header::Read;
 
 // The paper's number and place, and the table that the run leaves.
-#[derive(Drop)]
+#[derive(Clone, Copy)]
 pub struct Answer {
     pub number: u32,
     pub place: usize,

@@ -45,14 +45,14 @@ number_is no_digit = refl
 number_is (digit {s} {d = d} D h) = omega (arith, number_is D, spelt_more 0 s (48 + d))
 
 -- what passes the test is derived
-decimal_after : {s : List ℕ} {x : ℕ} → Decimal s x → (r : List ℕ) → T (all_digits r) → Decimal (s ++ r) (decimal_from x r)
+decimal_after : (r : List ℕ) {s : List ℕ} {x : ℕ} → Decimal s x → T (all_digits r) → Decimal (s ++ r) (decimal_from x r)
 unfolding all_digits decimal_from
-decimal_after {s} D [] t = rw (append-nil s) D
-decimal_after {s} D (b ∷ r) t =
-    rw (← append_snoc s b r) (decimal_after (decimal_more b D (and_left (is_digit b) (all_digits r) t)) r (and_right (is_digit b) (all_digits r) t))
+decimal_after [] {s} D t = rw (append-nil s) D
+decimal_after (b ∷ r) {s} D t =
+    rw (← append_snoc s b r) (decimal_after r (decimal_more b D (and_left (is_digit b) (all_digits r) t)) (and_right (is_digit b) (all_digits r) t))
 
 pub decimal : (s : List ℕ) → T (all_digits s) → Decimal s (decimal_from 0 s)
-decimal = decimal_after no_digit
+decimal s = decimal_after s no_digit
 
 -- n digits spell a number below 10 ^ n, so that a time is at most 9,999,999
 below_power : {s : List ℕ} {x : ℕ} → Decimal s x → x < 10 ^ length s

@@ -99,7 +99,7 @@ turns room others k (b ∷ s) = go room others k (line_at (b ∷ s)) (says (b �
 
 takes : (room : ℕ) (text : List ℕ) → Takes room text (taken room text)
 unfolding taken
-takes zero text = turns zero _ tt text
+takes zero text = turns zero (λ next. stops_with 0) tt text
 takes (suc room) text = turns (suc room) (taken room) (takes room) text
 
 -- a good line at the start of a text, and one with bad times, as they are read
@@ -127,8 +127,8 @@ turn_stops {room} others {text} (full F L e) = rw (turn_at room others text (not
 
 stops : (room : ℕ) {text : List ℕ} {number : ℕ} → NumberOf room text number → taken room text ≡ stops_with number
 unfolding taken
-stops zero A = turn_stops _ A
-stops (suc room) A = turn_stops _ A
+stops zero A = turn_stops (λ next. stops_with 0) A
+stops (suc room) A = turn_stops (taken room) A
 
 goes_on : (room : ℕ) {text name dialled answered ended rest : List ℕ} {c : ℕ} (F : FourFields text name dialled answered ended rest) → Lasted dialled answered ended c
     → taken (suc room) text ≡ with_call c (taken room F.next)

@@ -42,6 +42,7 @@ field_length (non_escaped a) = omega arith
 record_length_lem : {s name dialled answered ended : List ℕ} → Record s (name ∷ dialled ∷ answered ∷ ended ∷ []) → 3 + length dialled + length ended ≤ length s
 record_length_lem (more {s = a} {r = r} F (more {s = b} {r = q} G (more {s = c} {r = d} H (last K)))) =
     omega (arith, length-append a (COMMA ∷ r), length-append b (COMMA ∷ q), length-append c (COMMA ∷ d), field_length G, field_length K)
+record_length_lem {name = name} {dialled = dialled} {answered = answered} {ended = ended} (more {s = a} F (more {s = b} G (more {s = c} H (more {s = s} {r = r} _ x20)))) = elim x20 [ ]
 
 four_length : {text name dialled answered ended rest : List ℕ} → FourFields text name dialled answered ended rest
     → 3 + length dialled + length ended + length rest ≤ length text

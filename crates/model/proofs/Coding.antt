@@ -3,7 +3,7 @@
 use mathlib.Core.Path.{◌≡◌, refl, sym, ap, ◌∙◌}
 use mathlib.Core.Logic.{◌↔◌}
 use mathlib.Core.Bool.{true, ◌&&◌, cond}
-use Prim.Native.Nat.{ℕ, suc, ◌+◌, ◌-◌, ◌*◌, ◌/◌, ◌%◌, ◌^◌, ◌≤◌, ◌<◌}
+use Prim.Native.Nat.{ℕ, zero, suc, ◌+◌, ◌-◌, ◌*◌, ◌/◌, ◌%◌, ◌^◌, ◌≤◌, ◌<◌}
 use native.Mathlib.Nat.{mod-lt, mod-eq_of_lt, div-add-mod', pow-suc}
 use native.Mathlib.Decide.{dec_lt}
 use native.Mathlib.Omega.{arith}
@@ -25,6 +25,7 @@ in_range_lem k a = go (2 ^ (k - 1)) a (pow_pos (k - 1))
     go : (H : ℕ) (a : ℤ) → 0 < H → le_z (neg_ℤ (pos H)) a && lt_z a (pos H) ≡ ltb (mag a) H
     go (suc H) (pos n) h = refl
     go (suc H) (negsuc n) h = and_true (leb n H) ∙ sym (leb-suc-suc n H)
+    go zero _ h = elim h [ ]
 
 -- the code of a number whose magnitude is below p
 pub code_small : (p : ℕ) (a : ℤ) → mag a < p → code p a ≡ cond (non_neg a) (mag a) (p - 1 - mag a)
@@ -44,6 +45,7 @@ reads_up p v h = rw (le-leb v ((p - 1) / 2) h)
 pub reads_down : (p v : ℕ) → (p - 1) / 2 < v → v < p → read_back p v ≡ negsuc (p - 1 - v)
 unfolding read_back
 reads_down (suc p) v h l = rw (lt-leb v ((suc p - 1) / 2) h) (below_zero v (suc p) _ (omega arith))
+reads_down zero v h l = elim l [ ]
 
 pub code_below : (p : ℕ) (a : ℤ) → 0 < p → code p a < p
 unfolding code

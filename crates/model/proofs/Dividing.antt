@@ -24,6 +24,7 @@ down : (a M r : ℕ) → r < M → negsuc a *ℤ pos M +ℤ pos r ≡ negsuc (a 
 down a (suc M) r h =
     let e : suc a * suc M ≡ suc (a * suc M + M) = omega arith in
     rw (negsuc-*ℤ-pos a (suc M), e) (below_zero r (suc (a * suc M + M)) (a * suc M + (suc M - suc r)) (omega arith))
+down a zero r h = elim h [ ]
 
 fixed : (M : ℕ) (q q' : ℤ) (r r' : ℕ) → r < M → r' < M → q *ℤ pos M +ℤ pos r ≡ q' *ℤ pos M +ℤ pos r' → (q ≡ q') × (r ≡ r')
 fixed M (pos a) (pos b) r s h k e =

@@ -2,7 +2,7 @@
 -- Assumes nothing.
 use mathlib.Core.Path.{◌≡◌, refl, ap, ◌∙◌}
 use mathlib.Core.Bool.{Bool, true, false, ◌&&◌, ◌||◌}
-use mathlib.Core.List.{List, ◌∷◌}
+use mathlib.Core.List.{List, [], ◌∷◌}
 use Prim.Native.Nat.{ℕ, zero, suc, ◌+◌, ◌-◌, ◌*◌, ◌/◌, ◌%◌, ◌^◌, ◌<◌}
 use native.Mathlib.Nat.{mod-eq_of_lt, pow-suc}
 use native.Mathlib.Omega.{arith}
@@ -21,6 +21,7 @@ at_each test (x ∷ xs) t f h = go (eqb f x) refl h (at_each test xs (and_right 
     go : (b : Bool) → eqb f x ≡ b → T (b || among f xs) → (T (among f xs) → T (test f)) → T (test f)
     go true e h rest = rw (eqb→eq f x (rw e tt)) (and_left (test x) (all test xs) t)
     go false e h rest = rest h
+at_each test [] t f h = elim h [ ]
 
 pub in_use_lem : (test : ℕ → Bool) → T (all test fields_in_use) → (f : ℕ) → InUse f → T (test f)
 unfolding in_use

@@ -153,7 +153,7 @@ module _ (S : Setting) {B : ℕ} {Opens : ℕ → ℕ → ℕ → ℕ → Type 0
   unfolding hidden_values placed
   along (p_last (ends q)) (d_done x) (d_done x') ms ts wm wt le links = image_done ms ts q wm wt
   along (p_multiply ex ey pk) (d_multiply X Y k) (d_multiply X' Y' k') ms ts wm none le links = absurd (omega arith)
-  along (p_multiply {x} {y} {x'} {y'} ex ey pk) (d_multiply X Y k) (d_multiply X' Y' k') ms ts wm (one {x = t} {xs = us} ok wt) le links =
+  along (p_multiply {x} {y} {x'} {y'} ex ey pk) (d_multiply {n = n} X Y k) (d_multiply {n = n'} X' Y' k') ms ts wm (one {x = t} {xs = us} ok wt) le links =
       let M = N.bounds.modulus_is in
       let v = value S (minus S x t.a) in
       let w = value S (minus S y t.b) in
@@ -162,14 +162,15 @@ module _ (S : Setting) {B : ℕ} {Opens : ℕ → ℕ → ℕ → ℕ → Type 0
       let Z = shared_product S N.bounds P X Y t ok refl refl in
       let Z' = shared_product S N.bounds P X' Y' t' I.ok (ap (value S) (sym I.left)) (ap (value S) (sym I.right)) in
       image_multiply ms us t t' _ I
-      (along (pk _ _ (paired_beaver S.p (agree_keep S G) v w I.a_kept I.b_kept I.c_kept)) (k _ Z) (k' _ Z') ms us wm wt (omega arith) links)
-  along (p_mask {x = x} {x' = x'} ex pk) (d_mask X k) (d_mask X' k') ms ts (one {x = b} {xs = bs} ok wm) wt le (linked r' small q links) =
+      (along {n = n} {n' = n'} (pk _ _ (paired_beaver S.p (agree_keep S G) v w I.a_kept I.b_kept I.c_kept)) (k _ Z) (k' _ Z') ms us wm wt (omega arith) links)
+  along (p_mask {x = x} {x' = x'} ex pk) (d_mask {xs = zs} X k) (d_mask {xs = zs'} X' k') ms ts (one {x = b} {xs = bs} ok wm) wt le (linked r' small q links) =
       let C = value S (masked_with S x b) in
       let b' = kept_mask S set x' C b in
       let I = mask_image S N P G X X' ex b ok r' small (rw (mask_number N.bounds ok) at q) in
       image_mask bs ts b b' ok _ I
-      (along (pk C b b' (alike_each I.kept)) (rw (← I.first) at (k ok.r b ok.small ok.shareds))
+      (along {xs = zs} {xs' = zs'} (pk C b b' (alike_each I.kept)) (rw (← I.first) at (k ok.r b ok.small ok.shareds))
       (rw (← I.second) at (k' I.ok.r b' I.ok.small I.ok.shareds)) bs ts wm wt le links)
+  along (p_mask ex pk) (d_mask X k) (d_mask X' k') ms ts none wt le links = elim links [ ]
   along (p_reveal ex pk) (d_reveal X k) (d_reveal X' k') ms ts wm wt le links =
       image_reveal _ _ (same_row S N.bounds.modulus_is P G X X' ex) (along pk k k' ms ts wm wt le links)
 

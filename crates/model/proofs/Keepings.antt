@@ -131,6 +131,7 @@ module _ (S : Setting) (M : Modulus S.p) (P : Parties S.n S.t) where
     unfolding keepings
     keepings_back no_more Ys end = refl
     keepings_back (and X Xs) (and Y Ys) (Secrecy.row a as') = ap₂ {C = List Row} ◌∷◌ (keep_back X Y.sharing a) (keepings_back Xs Ys as')
+    keepings_back (and {y = y} {xs = xs} {ys = ys} X Xs) no_more x9 = elim x9 [ ]
 
     -- a row of a triple opens with x' what a opens with x
     minus_same : {x x' a : Row} → IsSharing x → IsSharing x' → Agree set x x' → IsSharing a

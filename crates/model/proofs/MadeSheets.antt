@@ -49,6 +49,7 @@ each_all f (one {x} {xs} t ts) = and_both (f x) (all f xs) t (each_all f ts)
 pub all_in : {A : Type 0} {P : A → Type 0} {xs : List A} → All P xs → (x : A) → In x xs → P x
 all_in {P = P} (one p ps) x (here e) = subst P (sym e) p
 all_in (one p ps) x (there m) = all_in ps x m
+all_in {A = A} {P = P} none x x6 = elim x6 [ ]
 
 module _ {p n t : ℕ} (M : Modulus p) (P : Parties n t) where
   -- a sharing is a row of a sheet, and its shares are below p

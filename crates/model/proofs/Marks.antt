@@ -32,6 +32,7 @@ unfolding marked
 marked_set marks (d ∷ ds) r (here e) h =
     marked_true (set marks d true) ds r (rw length-set h) (rw e (get_or-set_same marks d true false (rw e at h)))
 marked_set marks (d ∷ ds) r (there i) h = marked_set (set marks d true) ds r i (rw length-set h)
+marked_set marks [] r x'' h = elim x'' [ ]
 
 pub length_marked : (marks : List Bool) (ds : List ℕ) → length (marked marks ds) ≡ length marks
 unfolding marked

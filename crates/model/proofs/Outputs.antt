@@ -2,6 +2,7 @@
 -- Assumes nothing.
 use mathlib.Core.Path.{◌≡◌, refl}
 use mathlib.Core.List.Memᴰ.{head as here}
+use mathlib.Core.List.Memᴰ.{tail as there}
 use mathlib.Core.List.{[], ◌∷◌, Memᴰ as In}
 use Prim.Native.Nat.{ℕ, ◌<◌}
 use native.Mathlib.Omega.{arith}
@@ -31,6 +32,7 @@ leaving c d_in t e f = record { writes = rw (e, t); low = λ p K ok r i. one r (
   where
     one : {d : ℕ} (r : ℕ) → d < 64 → In r (d ∷ []) → r < 64
     one r h (here e) = rw e h
+    one r h (there i) = elim i [ ]
 
 pub agrees : (S : Setting) (c : Command) → Agrees S c
 unfolding cost_by outputs

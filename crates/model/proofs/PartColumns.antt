@@ -71,6 +71,7 @@ module _ (i : ℕ) where
   masks_each : (l : ℕ) (ms : List (List Row)) → Masks l ms → Masks l (map (map (column_row i)) ms)
   masks_each l (m ∷ ms) k x (here e) = rw e (length-map m (column_row i) ∙ k m (here refl))
   masks_each l (m ∷ ms) k x (there z) = masks_each l ms (λ y z. k y (there z)) x z
+  masks_each l [] k x x3 = elim x3 [ ]
 
   column_shape : {h : Header} {input : List Row} {d : Deal} → Shape h input d → Shape h (map (column_row i) input) (column_deal i d)
   column_shape {h} {input} {d} A =

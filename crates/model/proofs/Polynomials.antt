@@ -128,6 +128,7 @@ module _ {p : ℕ} (M : Modulus p) where
       eval_newton h x (f x) _ z ∙ rw (interpolate_eval xs _ n.1 m)
       (sym (mod-eq_of_lt (add_lt _ _ h))
       ∙ given (sub p (f z) (f x)) _ _ h (reciprocal_unit x z (n.0 z m)) (simp mod-ring (ring h _ _ _ _ (omega arith))))
+  interpolate_eval [] f {z = z} n x'' = elim x'' [ ]
 
   -- and is the only polynomial of its length that does
   pub interpolate_only : (xs cs : List ℕ) → Nodes xs → length cs ≡ length xs → Below p cs → interpolate p xs (eval p cs) ≡ cs

@@ -144,11 +144,15 @@ rising_distinct (x ∷ xs) r = (λ z m e. omega (arith, r.0 z m), rising_distinc
 pub in_take : (k : ℕ) (xs : List ℕ) {z : ℕ} → In z (take k xs) → In z xs
 in_take (suc k) (x ∷ xs) (here e) = here e
 in_take (suc k) (x ∷ xs) (there m) = there (in_take k xs m)
+in_take zero xs {z = z} x' = elim x' [ ]
+in_take (suc k) [] {z = z} x3 = elim x3 [ ]
 
 front_lower : (k : ℕ) (xs : List ℕ) → Rising xs → (z : ℕ) → In z xs → (In z (take k xs) → ⊥) → (x : ℕ) → In x (take k xs) → x < z
 front_lower (suc k) (y ∷ ys) r z (here e) n x i = absurd (n (here e))
 front_lower (suc k) (y ∷ ys) r z (there m) n x (here e) = rw e (r.0 z m)
 front_lower (suc k) (y ∷ ys) r z (there m) n x (there i) = front_lower k ys r.1 z m (λ l. n (there l)) x i
+front_lower zero xs r z _ n x i = elim i [ ]
+front_lower (suc k) [] r z x12 n x i = elim x12 [ ]
 
 pub distinct_take : (k : ℕ) (xs : List ℕ) → Distinct xs → Distinct (take k xs)
 distinct_take zero xs d = tt

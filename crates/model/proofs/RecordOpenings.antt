@@ -47,6 +47,7 @@ without x (y ∷ ys) (there i) = let w = without x ys i in record { rest = y ∷
     has : (w : Without x ys) (z : ℕ) → In z (y ∷ ys) → z ≢ x → In z (y ∷ w.rest)
     has w z (here q) n = here q
     has w z (there m) n = there (w.has z m n)
+without x [] x'' = elim x'' [ ]
 
 -- different numbers that all stand in a list are not more than it has
 pub at_most : (xs ys : List ℕ) → Distinct xs → ((z : ℕ) → In z xs → In z ys) → length xs ≤ length ys
@@ -60,6 +61,7 @@ pub all_to : (f : ℕ → Bool) (xs : List ℕ) → T (all f xs) → (z : ℕ) �
 unfolding all
 all_to f (x ∷ xs) t z (here e) = rw e (and_left (f x) (all f xs) t)
 all_to f (x ∷ xs) t z (there m) = all_to f xs (and_right (f x) (all f xs) t) z m
+all_to f [] t z x'' = elim x'' [ ]
 
 pub all_from : (f : ℕ → Bool) (xs : List ℕ) → ((z : ℕ) → In z xs → T (f z)) → T (all f xs)
 unfolding all

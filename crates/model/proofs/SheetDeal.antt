@@ -81,6 +81,7 @@ module _ (s : List ℕ) (n : ℕ) where
   unfolding masks_from
   masks_from_lem l i (suc c) m (here e) = ap length e ∙ length_at i l
   masks_from_lem l i (suc c) m (there h) = masks_from_lem l (i + 4 * n * l) c m h
+  masks_from_lem l i zero m x' = elim x' [ ]
 
   mask_rows_lem : (l i c : ℕ) → mask_rows (masks_from s n l i c) ≡ rows_at s n i (l * c)
   unfolding masks_from mask_rows rows_at

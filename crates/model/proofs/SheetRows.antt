@@ -95,3 +95,4 @@ module _ (s : List ℕ) (b : Below 256 s) where
   unfolding rows_at
   rows_fit n i (suc c) x (here e) = rw e (row_fits n i)
   rows_fit n i (suc c) x (there m) = rows_fit n (i + 4 * n) c x m
+  rows_fit n i zero x x3 = elim x3 [ ]

@@ -1,4 +1,6 @@
 // Who is present: the lowest t + 1 present parties, from whose shares an opening is worked, and their weights.
+#![tactic(auto)]
+
 ghost use Rattle.std.specs.Prelude.{◌≡◌, ◌+◌, ◌-◌, ◌/◌, ◌≤◌, ◌<◌, eqb, set, take, ◌≢◌};
 ghost use Rattle.algebra.specs.Lists.{from};
 ghost use Rattle.algebra.specs.Lists as Lists;
@@ -11,7 +13,7 @@ ghost use Rattle.presence.specs.Openings.{LowestOf, Further, FirstWeights, parti
 use field::{arithmetic, table};
 
 // A party and its weight.
-#[derive(Drop)]
+#[derive(Clone, Copy)]
 pub struct Point {
     pub party: u32,
     pub weight: u32,
@@ -19,7 +21,7 @@ pub struct Point {
 
 // How a run works its openings: the byte that says who is present, and the lowest t + 1 present parties with their weights. Points past these have the
 // weight 0. The points are four fields and not a list: a frame has them, what is found of a sheet is an enum with a frame, and an enum may hold no list.
-#[derive(Drop)]
+#[derive(Clone, Copy)]
 pub struct Opening {
     pub present: u32,
     pub first: Point,
@@ -62,7 +64,7 @@ pub fn all_present(n: usize, present: u32) -> bool
 }
 
 // The lowest present parties, how many there are of them, and what is left of the byte past the bits of parties 1 to n.
-#[derive(Drop)]
+#[derive(Clone, Copy)]
 pub struct Found {
     pub parties: [usize; 4],
     pub count: usize,

@@ -17,7 +17,7 @@ use sheet::frame::Frame;
 use steps::places::Places;
 
 // 64 registers of seven cells each, register r's from cell 7r on; and what was spent, with the marks of the registers that are set.
-#[derive(Drop)]
+#[derive(Clone, Copy)]
 pub struct Table {
     pub cells: [u32; 448],
     pub spent: Spent,

@@ -1,4 +1,6 @@
 // Request 8: a party replays its own column, "from party number, header, script, that party's part of the column form, and the record".
+#![tactic(auto)]
+
 pub mod lines;
 pub mod own;
 
@@ -22,7 +24,7 @@ use sheet::header;
 use sheet::header::Read;
 
 // "It yields the 64 cells and the counts", with number and place.
-#[derive(Drop)]
+#[derive(Clone, Copy)]
 pub struct Answer {
     pub number: u32,
     pub place: usize,

@@ -17,7 +17,7 @@ const RECORD_LENGTH: usize = 10850;
 const REVEALED_LENGTH: usize = 511;
 
 // The number and the place at which a replay stops, and the table of one column after the last finished command.
-#[derive(Drop)]
+#[derive(Clone, Copy)]
 pub struct Stopped {
     pub number: u32,
     pub place: usize,

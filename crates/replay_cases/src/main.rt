@@ -1,6 +1,8 @@
 // Replays the cases of standard input, and prints all that each replay yields. A case is, as reference/src/replay/case.rs has it, four words of 4
 // bytes, little-endian: the party, the lengths of head and part, and how many numbers the record has; then head, part, and the record's numbers, a word
 // each.
+#![tactic(auto)]
+
 ghost use Rattle.std.specs.Prelude.{◌≡◌, ◌+◌, ◌*◌, ◌≤◌, length};
 
 use replay::Answer;

@@ -1,6 +1,7 @@
 // Numbers and lists, each after a text.
 use field::coding;
-use libc::STDOUT_FILENO;
+// Standard output.
+const STDOUT_FILENO: i32 = 1;
 
 pub fn put(text: &[u8]) {
     io::write_all(STDOUT_FILENO, text);

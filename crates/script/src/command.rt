@@ -1,5 +1,5 @@
 // The fourteen commands with their operands: registers, k, m, w, h and v as paper and request 7 name them.
-#[derive(Drop)]
+#[derive(Clone, Copy)]
 pub enum Command {
     Load {
         d: usize,
@@ -76,7 +76,7 @@ pub enum Command {
 
 // What stands at a place of a script: a command and the place after it, or the script ends there, with the paper's number and place: 0 and END's
 // offset, or a refusal's.
-#[derive(Drop)]
+#[derive(Clone, Copy)]
 pub enum Decoded {
     Command(Command, usize),
     Ends(u32, usize),

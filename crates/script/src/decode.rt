@@ -58,7 +58,7 @@ pub fn decode(p: u32, largest: u32, s: &[u8], at: usize) -> Decoded
 }
 
 // Number and place where the script ends, for the else of a let-else, which binds nothing; 0 and 0 for a command.
-#[derive(Drop)]
+#[derive(Clone, Copy)]
 pub struct Ending {
     pub number: u32,
     pub place: usize,

@@ -1,4 +1,6 @@
 // The secret of a row, as the remainder of a weighted sum, and the test that a row is a sharing.
+#![tactic(auto)]
+
 ghost use Rattle.std.specs.Prelude.{◌≡◌, ◌+◌, ◌%◌, ◌^◌, ◌≤◌, ◌<◌, get_or};
 ghost use Rattle.algebra.specs.Lists.{from, all_below};
 ghost use Rattle.algebra.specs.Rows as Rows;
@@ -6,7 +8,7 @@ ghost use Rattle.model.specs.Fields as Fields;
 ghost use Rattle.model.specs.Sharing as Sharing;
 
 // A row by value: seven cells, of which the first n are the shares of parties 1 to n and the others 0.
-#[derive(Drop)]
+#[derive(Clone, Copy)]
 pub struct Row {
     pub shares: [u32; 7],
 }

@@ -1,4 +1,6 @@
 // Shamir's sharing: rows of shares, what is opened of them, and the entries share, recover and sum.
+#![tactic(auto)]
+
 pub mod opening;
 pub mod polynomial;
 pub mod rows;
@@ -12,14 +14,14 @@ ghost use Rattle.model.specs.Entries.{share_tests, share_number, share_left, rec
 use field::table;
 
 // What recover answers: the paper's number, and the secret, 0 where it refuses.
-#[derive(Drop)]
+#[derive(Clone, Copy)]
 pub struct Recovered {
     pub number: u32,
     pub value: u32,
 }
 
 // What sum answers: the paper's number, and the sum before reducing, 0 where it refuses.
-#[derive(Drop)]
+#[derive(Clone, Copy)]
 pub struct Summed {
     pub number: u32,
     pub sum: u64,

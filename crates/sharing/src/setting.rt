@@ -1,7 +1,7 @@
 // What rows and steps are worked with, by value: the field's modulus, the bits of a mask, the parties, the threshold, and how openings are worked.
 use presence::Opening;
 
-#[derive(Drop)]
+#[derive(Clone, Copy)]
 pub struct Setting {
     pub p: u32,
     pub l: usize,

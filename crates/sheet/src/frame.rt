@@ -8,7 +8,7 @@ use sharing::setting::Setting;
 // What an accepted header says, by value: the field's numbers, the parties, how many input rows, masks and triples there are, the script's
 // length, and the places in the sheet's bytes of the first input row, the first mask and the first triple. How openings are worked is found once, for a run;
 // a frame that is read for its header alone has `no_opening` there.
-#[derive(Drop)]
+#[derive(Clone, Copy)]
 pub struct Frame {
     pub p: u32,
     pub l: usize,

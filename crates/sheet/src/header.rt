@@ -14,14 +14,14 @@ use field::table;
 const HEADER_SIZE: usize = 11;
 
 // What reading a sheet finds: its frame, or the paper's number of a refusal.
-#[derive(Drop)]
+#[derive(Clone, Copy)]
 pub enum Read {
     Sheet(Frame),
     Refused(u32),
 }
 
 // The numbers of the header's bytes, as they stand.
-#[derive(Drop)]
+#[derive(Clone, Copy)]
 pub struct Header {
     pub field: u32,
     pub n: u32,

@@ -1,4 +1,6 @@
 // The sheet: its header, where its parts stand, and the refusals 1 to 8 and 12.
+#![tactic(auto)]
+
 pub mod deal;
 pub mod frame;
 pub mod header;

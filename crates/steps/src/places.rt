@@ -5,7 +5,7 @@ ghost use Rattle.steps.specs.Places.{past_triples, past_mask, Ahead, MaskAhead};
 use sharing::setting::Setting;
 
 // Where the next mask and the next triple stand in the sheet's bytes, and where the next opening goes in the record.
-#[derive(Drop)]
+#[derive(Clone, Copy)]
 pub struct Places {
     pub mask: usize,
     pub triple: usize,

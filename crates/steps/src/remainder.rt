@@ -18,7 +18,7 @@ use sharing::rows;
 use sharing::setting::Setting;
 
 // The rows that the comparisons leave.
-#[derive(Drop)]
+#[derive(Clone, Copy)]
 pub struct Compared {
     pub f: Row,
     pub u0: Row,

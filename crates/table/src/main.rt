@@ -1,4 +1,6 @@
 // Runs the sheet on standard input, and prints the paper's lines of the run.
+#![tactic(auto)]
+
 ghost use Rattle.std.specs.Prelude.{◌≡◌, ◌*◌, ◌≤◌, ◌<◌, length};
 ghost use Rattle.model.specs.Sheet as Sheet;
 ghost use Rattle.model.specs.Refusals.{is_run};

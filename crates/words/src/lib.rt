@@ -1,4 +1,6 @@
 // Numbers in bytes: "Numbers are little-endian".
+#![tactic(auto)]
+
 ghost use Rattle.std.specs.Prelude.{◌≡◌, ◌+◌, ◌≤◌, ◌<◌, length};
 ghost use Rattle.model.specs.Bytes as Bytes;
 

@@ -12,5 +12,5 @@ array-borrow-prefix-seconds c = search rules
 slice-aggregate-import-lent : tie.Need-slice-aggregate-import-lent
 slice-aggregate-import-lent c = sym (length-take-le _ _ (array-borrow-prefix-seconds c.before))
 
-pub import-list-spec : {M : Type 1} → statement M
-import-list-spec = tie.close (tie.spec array-borrow-prefix-seconds slice-aggregate-import-lent (λ c κs. search rules) (λ c. search rules))
+pub import_list_spec : {M : Type 1} → statement M
+import_list_spec = tie.close (tie.spec array-borrow-prefix-seconds slice-aggregate-import-lent (λ c κs. search rules) (λ c. search rules))

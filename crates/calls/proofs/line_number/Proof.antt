@@ -5,5 +5,5 @@ use Rattle.calls.proofs.Turns.{number_of}
 use Rattle.calls.proofs.line_number.Statement.{statement}
 use Rattle.calls.proofs.line_number.Tie as tie
 
-pub line-number-spec : {M : Type 1} → statement M
-line-number-spec = tie.close (tie.spec (λ c κs. search rules) (λ c κs. search rules) (λ c κs. search rules) (λ c s. search (rules, number_of)))
+pub line_number_spec : {M : Type 1} → statement M
+line_number_spec = tie.close (tie.spec (λ c κs. search rules) (λ c κs. search rules) (λ c κs. search rules) (λ c s. search (rules, number_of)))

@@ -26,5 +26,5 @@ ample list seconds left r h e =
 returns : tie.Need-returns
 returns c = search (rules, ample)
 
-pub import-ample-spec : {M : Type 1} → statement M
-import-ample-spec = tie.close (tie.spec (λ c κs. search rules) (λ c. search rules) returns)
+pub import_ample_spec : {M : Type 1} → statement M
+import_ample_spec = tie.close (tie.spec (λ c κs. search rules) (λ c. search rules) returns)

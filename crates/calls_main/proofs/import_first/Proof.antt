@@ -13,5 +13,5 @@ slice-aggregate-import-list c = let given = c.before.before.args in sym (length-
 import-list-requires : tie.Need-import-list-requires
 import-list-requires c κs = let given = c.before.before.args in omega (arith, length-take-le given.n given.list.now (search rules))
 
-pub import-first-spec : {M : Type 1} → statement M
-import-first-spec = tie.close (tie.spec slice-aggregate-import-list import-list-requires (λ c. search rules))
+pub import_first_spec : {M : Type 1} → statement M
+import_first_spec = tie.close (tie.spec slice-aggregate-import-list import-list-requires (λ c. search rules))

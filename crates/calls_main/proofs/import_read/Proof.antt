@@ -12,8 +12,8 @@ use Rattle.calls_main.proofs.import_read.Tie as tie
 within : (room : ℕ) {x : Input} {n : ℕ} → x ≡ Whole n → Within room x → n < room
 within room e w = rw e at w
 
-pub import-read-spec : {M : Type 1} → statement M
-import-read-spec =
+pub import_read_spec : {M : Type 1} → statement M
+import_read_spec =
     tie.close
     (tie.spec (λ c. search rules) (λ c κs. search (rules, within)) (λ c. search rules) (λ c κs. search rules) (λ c. search rules) (λ c κs. search rules)
     (λ c. search rules) (λ c. search rules) (λ c. search rules))

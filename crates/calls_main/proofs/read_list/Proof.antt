@@ -14,5 +14,5 @@ within-as x e w = rw e w
 import-read-requires : tie.Need-import-read-requires
 import-read-requires c κs = (search rules, within-as c.before.before.read_all.result c.before.before.read_all.auto.0 c.before.before.read_all.ensures)
 
-pub read-list-spec : {M : Type 1} → statement M
-read-list-spec = tie.close (tie.spec (λ c κs. search rules) import-read-requires (λ c. search rules))
+pub read_list_spec : {M : Type 1} → statement M
+read_list_spec = tie.close (tie.spec (λ c κs. search rules) import-read-requires (λ c. search rules))

@@ -12,8 +12,8 @@ slice-relend-prefix-read-full c = search rules
 slice-reshare-prefix-run-sheet : tie.Need-slice-reshare-prefix-run-sheet
 slice-reshare-prefix-run-sheet c = search rules
 
-pub read-into-spec : {M : Type 1} → statement M
-read-into-spec =
+pub read_into_spec : {M : Type 1} → statement M
+read_into_spec =
     tie.close
     (tie.spec slice-relend-prefix-read-full (λ c. sym (length-take-le _ _ (slice-relend-prefix-read-full c.before))) (λ c κs. search rules) (λ c. search rules)
     (λ c. search rules) slice-reshare-prefix-run-sheet (λ c. sym (length-take-le _ _ (slice-reshare-prefix-run-sheet c.before))) (λ c κs. search rules)

@@ -18,8 +18,8 @@ array-borrow-prefix-revealed c = search rules
 slice-aggregate-run-lent-2 : tie.Need-slice-aggregate-run-lent-2
 slice-aggregate-run-lent-2 c = sym (length-take-le _ _ (array-borrow-prefix-revealed c.before))
 
-pub run-sheet-spec : {M : Type 1} → statement M
-run-sheet-spec =
+pub run_sheet_spec : {M : Type 1} → statement M
+run_sheet_spec =
     tie.close
     (tie.spec array-borrow-prefix-log slice-aggregate-run-lent array-borrow-prefix-revealed slice-aggregate-run-lent-2 (λ c κs. search rules)
     (λ c. search rules))

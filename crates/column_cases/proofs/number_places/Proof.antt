@@ -13,8 +13,8 @@ invariant-loop xs₀ next₀ i₀ xs next i = length xs ≡ length xs₀
 abbrev decreases-loop : tie.decreases-loop
 decreases-loop xs₀ next₀ i₀ xs next i = length xs₀ - i
 
-pub number-places-spec : {M : Type 1} → statement M
-number-places-spec =
+pub number_places_spec : {M : Type 1} → statement M
+number_places_spec =
     tie.close
     (tie.spec invariant-loop decreases-loop (λ c. search rules) (λ c. search rules) (λ c κs. search rules) (λ c. search rules) (λ c. search rules)
     (λ c. search (rules, length-set)) (λ c. search rules) (λ c. search rules))

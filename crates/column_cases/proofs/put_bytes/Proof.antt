@@ -12,8 +12,8 @@ invariant-loop xs i₀ i = i ≤ length xs
 abbrev decreases-loop : tie.decreases-loop
 decreases-loop xs i₀ i = length xs - i
 
-pub put-bytes-spec : {M : Type 1} → statement M
-put-bytes-spec =
+pub put_bytes_spec : {M : Type 1} → statement M
+put_bytes_spec =
     tie.close
     (tie.spec invariant-loop decreases-loop (λ c. search rules) (λ c. search rules) (λ c κs. search rules) (λ c. search rules) (λ c. search rules) (λ c. search rules)
     (λ c. search rules))

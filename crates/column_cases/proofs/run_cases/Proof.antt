@@ -12,8 +12,8 @@ invariant-loop s at₀ at = at ≤ length s
 abbrev decreases-loop : tie.decreases-loop
 decreases-loop s at₀ at = length s - at
 
-pub run-cases-spec : {M : Type 1} → statement M
-run-cases-spec =
+pub run_cases_spec : {M : Type 1} → statement M
+run_cases_spec =
     tie.close
     (tie.spec invariant-loop decreases-loop (λ c. search rules) (λ c. search rules) (λ c. search rules) (λ c. search rules) (λ c κs. search rules) (λ c. search rules)
     (λ c. search rules) (λ c. search rules) (λ c. search rules) (λ c. search rules))

@@ -5,8 +5,8 @@ use borrow.Author.Rules.{rules}
 use Rattle.column_form.proofs.to_columns.Statement.{statement}
 use Rattle.column_form.proofs.to_columns.Tie as tie
 
-turn-over-requires : tie.Need-turn-over-requires
-turn-over-requires c κs = let S = c.before.before.before.find.ensures.stands c.before.if1.true in search rules
+turn-over-requires : tie.Need-turn_over-requires
+turn-over-requires c κs = let S = c.find-found.ensures.stands c.if-found-eq0.true in search rules
 
-pub to-columns-spec : {M : Type 1} → statement M
-to-columns-spec = tie.close (tie.spec (λ c κs. search rules) turn-over-requires (λ c. search rules) (λ c. search (rules, form_left)) (λ c. search (rules, left_alone)))
+pub to_columns_spec : {M : Type 1} → statement M
+to_columns_spec = tie.close (tie.spec (λ c κs. search rules) turn-over-requires (λ c. search rules) (λ c. search (rules, form_left)) (λ c. search (rules, left_alone)))

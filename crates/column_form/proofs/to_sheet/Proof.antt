@@ -5,8 +5,8 @@ use borrow.Author.Rules.{rules}
 use Rattle.column_form.proofs.to_sheet.Statement.{statement}
 use Rattle.column_form.proofs.to_sheet.Tie as tie
 
-turn-back-requires : tie.Need-turn-back-requires
-turn-back-requires c κs = let S = c.before.before.before.find.ensures.stands c.before.if1.true in search rules
+turn-back-requires : tie.Need-turn_back-requires
+turn-back-requires c κs = let S = c.find-found.ensures.stands c.if-found-eq0.true in search rules
 
-pub to-sheet-spec : {M : Type 1} → statement M
-to-sheet-spec = tie.close (tie.spec (λ c κs. search rules) turn-back-requires (λ c. search rules) (λ c. search (rules, form_left)) (λ c. search (rules, left_alone)))
+pub to_sheet_spec : {M : Type 1} → statement M
+to_sheet_spec = tie.close (tie.spec (λ c κs. search rules) turn-back-requires (λ c. search rules) (λ c. search (rules, form_left)) (λ c. search (rules, left_alone)))

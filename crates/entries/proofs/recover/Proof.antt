@@ -13,8 +13,8 @@ slice-aggregate-recover-lists c = sym (length-take-le _ _ (omega (arith, c.befor
 slice-aggregate-recover-lists-2 : tie.Need-slice-aggregate-recover-lists-2
 slice-aggregate-recover-lists-2 c = sym (length-take-le _ _ (omega (arith, c.before.before.before.words2.ensures, c.before.before.length-at2.ensures)))
 
-pub recover-spec : {M : Type 1} → statement M
-recover-spec =
+pub recover_spec : {M : Type 1} → statement M
+recover_spec =
     tie.close
     (tie.spec (λ c κs. search rules) (λ c κs. search rules) (λ c κs. search rules) (λ c κs. search rules) (λ c. search rules)
     slice-aggregate-recover-lists (λ c. search rules) slice-aggregate-recover-lists-2 (λ c κs. search rules) (λ c. search rules))

@@ -13,8 +13,8 @@ slice-aggregate-share-lists c = sym (length-take-le _ _ (omega (arith, c.before.
 slice-aggregate-share-lists-2 : tie.Need-slice-aggregate-share-lists-2
 slice-aggregate-share-lists-2 c = sym (length-take-le _ _ (omega (arith, c.before.before.before.words2.ensures, c.before.before.length-at2.ensures)))
 
-pub share-spec : {M : Type 1} → statement M
-share-spec =
+pub share_spec : {M : Type 1} → statement M
+share_spec =
     tie.close
     (tie.spec (λ c κs. search rules) (λ c κs. search rules) (λ c κs. search rules) (λ c κs. search rules) (λ c. search rules) slice-aggregate-share-lists
     (λ c. search rules) slice-aggregate-share-lists-2 (λ c κs. search rules) (λ c. search rules))

@@ -11,10 +11,10 @@ returns c =
     let high = c.before.before.before.word.ensures in
     let low = c.before.before.word2.ensures in
     let up = c.before.word3.ensures in
-    held_is (sfits_of c.signed.type-inv) ∙ c.signed.ensures ∙ rw (up, low, high)
+    held_is (sfits_of c.signed.type_inv) ∙ c.signed.ensures ∙ rw (up, low, high)
 
-pub signed-at-spec : {M : Type 1} → statement M
-signed-at-spec =
+pub signed_at_spec : {M : Type 1} → statement M
+signed_at_spec =
     tie.close
     (tie.spec (λ c κs. search rules) (λ c. search rules) (λ c. search rules) (λ c κs. search rules) (λ c. search rules) (λ c. search rules)
     (λ c κs. search rules) (λ c κs. search rules) returns)

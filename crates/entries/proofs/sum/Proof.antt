@@ -10,7 +10,7 @@ use Rattle.entries.proofs.sum.Tie as tie
 slice-aggregate-sum-list : tie.Need-slice-aggregate-sum-list
 slice-aggregate-sum-list c = sym (length-take-le _ _ (omega (arith, c.before.before.words.ensures, c.before.length_at.ensures)))
 
-pub sum-spec : {M : Type 1} → statement M
-sum-spec =
+pub sum_spec : {M : Type 1} → statement M
+sum_spec =
     tie.close
     (tie.spec (λ c κs. search rules) (λ c κs. search rules) (λ c. search rules) slice-aggregate-sum-list (λ c κs. search rules) (λ c. search rules))

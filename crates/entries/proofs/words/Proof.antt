@@ -42,8 +42,8 @@ returns c =
     let done = c.before.loop.invariant in
     (is_tab 9 _ c.before.loop.out (sym done.1) (λ k h. done.2 k (omega arith)), done.1)
 
-pub words-spec : {M : Type 1} → statement M
-words-spec =
+pub words_spec : {M : Type 1} → statement M
+words_spec =
     tie.close
     (tie.spec invariant-loop decreases-loop loop-holds (λ c. search rules) (λ c κs. search rules) (λ c. search rules) (λ c. search rules) (λ c. search rules)
     (λ c. search rules) loop-again returns)

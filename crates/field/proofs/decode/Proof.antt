@@ -7,16 +7,16 @@ use Rattle.field.proofs.Answers.{decode_refused, decode_done}
 use Rattle.field.proofs.decode.Statement.{statement}
 use Rattle.field.proofs.decode.Tie as tie
 
-accepted : (c : tie.Else1) → Decodes c.before.before.args.field c.before.before.args.v
-accepted c = decode_accepted _ _ (sym c.before.decode-number.ensures ∙ c.if1.false)
+accepted : (c : tie.Else-number-ne0) → Decodes c.before.before.args.field c.before.before.args.v
+accepted c = decode_accepted _ _ (sym c.before.decode_number-number.ensures ∙ c.if-number-ne0.false)
 
 modulus-requires : tie.Need-modulus-requires
 modulus-requires c κs = (accepted c).field
 
-read-back-requires : tie.Need-read-back-requires
+read-back-requires : tie.Need-read_back-requires
 read-back-requires c κs = (c.modulus.ensures.1, rw c.modulus.ensures.0 (accepted c.before).below)
 
-pub decode-spec : {M : Type 1} → statement M
-decode-spec =
+pub decode_spec : {M : Type 1} → statement M
+decode_spec =
     tie.close
     (tie.spec (λ c κs. search rules) (λ c. search (rules, decode_refused)) modulus-requires read-back-requires (λ c. search (rules, decode_done)))

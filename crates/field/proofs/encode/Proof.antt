@@ -12,8 +12,8 @@ use Rattle.field.proofs.Answers.{encode_number_lem, encode_refused, encode_done}
 use Rattle.field.proofs.encode.Statement.{statement}
 use Rattle.field.proofs.encode.Tie as tie
 
-accepted : (c : tie.Else1) → let a = c.before.before.args in Encodes a.field a.k a.a
-accepted c = encode_accepted _ _ _ (sym (encode_number_lem _ _ _ c.before.before.ranges.a c.before.encode_number_lem.ensures) ∙ c.if1.false)
+accepted : (c : tie.Else-number-ne0) → let a = c.before.before.args in Encodes a.field a.k a.a
+accepted c = encode_accepted _ _ _ (sym (encode_number_lem _ _ _ c.before.before.ranges.a c.before.encode_number-number.ensures) ∙ c.if-number-ne0.false)
 
 modulus-requires : tie.Need-modulus-requires
 modulus-requires c κs = (accepted c).field
@@ -25,8 +25,8 @@ code-requires c κs =
     let small = range_small (fields _ A.field) _ s.args.a A.least A.most (is_true _ A.range) in
     (c.modulus.ensures.1, rw (c.modulus.ensures.0, held_is s.ranges.a) (omega arith))
 
-pub encode-spec : {M : Type 1} → statement M
-encode-spec =
+pub encode_spec : {M : Type 1} → statement M
+encode_spec =
     tie.close
     (tie.spec (λ c κs. search rules) (λ c. search (rules, encode_number_lem, encode_refused)) modulus-requires code-requires
     (λ c. search (rules, encode_number_lem, encode_done)))

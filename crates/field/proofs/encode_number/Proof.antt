@@ -9,16 +9,16 @@ use Rattle.field.proofs.Answers.{range_told}
 use Rattle.field.proofs.encode_number.Statement.{statement}
 use Rattle.field.proofs.encode_number.Tie as tie
 
-largest-k-requires : tie.Need-largest-k-requires
+largest-k-requires : tie.Need-largest_k-requires
 largest-k-requires c κs = search (rules, trying, below_four)
 
-in-range-requires : tie.Need-in-range-requires
+in-range-requires : tie.Need-in_range-requires
 in-range-requires c κs =
     let s = c.before.before.before.before in
-    omega (arith, fields _ (field_passed _ s.field-number.ensures c.before.before.before.if1.false))
+    omega (arith, fields _ (field_passed _ s.field_number-number.ensures c.before.before.before.if-number-ne0.false))
 
-pub encode-number-spec : {M : Type 1} → statement M
+pub encode_number_spec : {M : Type 1} → statement M
 unfolding encode_tests
-encode-number-spec =
+encode_number_spec =
     tie.close
     (tie.spec (λ c κs. search rules) (λ c. search (rules, trying)) (λ c. search (rules, trying)) largest-k-requires (λ c. search (rules, trying)) in-range-requires (λ c. search (rules, trying, range_told) depth 9) (λ c. search (rules, trying, range_told) depth 9))

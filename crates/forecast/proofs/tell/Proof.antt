@@ -5,7 +5,7 @@ use Rattle.forecast.proofs.Taking.{part_length}
 use Rattle.forecast.proofs.tell.Statement.{statement}
 use Rattle.forecast.proofs.tell.Tie as tie
 
-pub tell-spec : {M : Type 1} → statement M
-tell-spec =
+pub tell_spec : {M : Type 1} → statement M
+tell_spec =
     tie.close
     (tie.spec (λ c κs. search rules) (λ c κs. search rules) (λ c κs. search rules) (λ c. search (rules, part_length)) (λ c κs. search rules) (λ c. search rules))

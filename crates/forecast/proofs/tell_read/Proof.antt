@@ -9,5 +9,5 @@ use Rattle.forecast.proofs.tell_read.Tie as tie
 slice-aggregate-tell : tie.Need-slice-aggregate-tell
 slice-aggregate-tell c = sym (length-take-le _ _ c.before.before.requires.1)
 
-pub tell-read-spec : {M : Type 1} → statement M
-tell-read-spec = tie.close (tie.spec slice-aggregate-tell (λ c κs. search rules) (λ c. search rules))
+pub tell_read_spec : {M : Type 1} → statement M
+tell_read_spec = tie.close (tie.spec slice-aggregate-tell (λ c κs. search rules) (λ c. search rules))

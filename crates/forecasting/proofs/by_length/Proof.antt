@@ -5,8 +5,8 @@ use Rattle.forecasting.proofs.Heads.{bounds, right_length, other_length}
 use Rattle.forecasting.proofs.by_length.Statement.{statement}
 use Rattle.forecasting.proofs.by_length.Tie as tie
 
-pub by-length-spec : {M : Type 1} → statement M
-by-length-spec =
+pub by_length_spec : {M : Type 1} → statement M
+by_length_spec =
     tie.close
     (tie.spec (λ c. search rules) (λ c κs. search rules) (λ c. search rules) (λ c. search rules) (λ c. search rules) (λ c κs. search (rules, bounds)) (λ c κs. search rules)
     (λ c. search (rules, right_length)) (λ c. search (rules, other_length)))

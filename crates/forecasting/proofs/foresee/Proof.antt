@@ -6,8 +6,8 @@ use borrow.Author.Rules.{rules}
 use Rattle.forecasting.proofs.foresee.Statement.{statement}
 use Rattle.forecasting.proofs.foresee.Tie as tie
 
-pub foresee-spec : {M : Type 1} → statement M
-foresee-spec =
+pub foresee_spec : {M : Type 1} → statement M
+foresee_spec =
     tie.close
     (tie.spec (λ c κs. search rules) (λ c. search rules) (λ c κs. search (rules, header_frame)) (λ c. search rules) (λ c κs. search rules)
     (λ c. search (rules, header_passes)) (λ c. search (rules, header_refused)))

@@ -7,9 +7,9 @@ use native.Mathlib.Omega.{arith}
 use Rattle.from_record.proofs.first_present.Statement.{statement}
 use Rattle.from_record.proofs.first_present.Tie as tie
 
-returns : tie.Need-returns
+returns : tie.Need-returns-then-log-n
 unfolding everyone
-returns c = omega (arith, c.before.everyone.ensures, pow_pos c.before.before.before.before.args.n)
+returns c = omega (arith, c.everyone.ensures, pow_pos c.args.n)
 
-pub first-present-spec : {M : Type 1} → statement M
-first-present-spec = tie.close (tie.spec (λ c κs. search rules) (λ c κs. search rules) returns (λ c κs. search rules) (λ c. search rules))
+pub first_present_spec : {M : Type 1} → statement M
+first_present_spec = tie.close (tie.spec (λ c κs. search rules) (λ c κs. search rules) returns (λ c κs. search rules) (λ c. search rules))

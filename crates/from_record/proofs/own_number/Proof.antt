@@ -5,8 +5,8 @@ use borrow.Author.Rules.{rules}
 use Rattle.from_record.proofs.own_number.Statement.{statement}
 use Rattle.from_record.proofs.own_number.Tie as tie
 
-pub own-number-spec : {M : Type 1} → statement M
-own-number-spec =
+pub own_number_spec : {M : Type 1} → statement M
+own_number_spec =
     tie.close
     (tie.spec (λ c. search rules) (λ c. search rules) (λ c. search rules) (λ c. search rules) (λ c. search (rules, own_absent))
     (λ c. search (rules, own_same)) (λ c. search (rules, own_differs)))

@@ -7,19 +7,19 @@ use borrow.Author.Rules.{rules}
 use Rattle.from_record.proofs.value_in.Statement.{statement}
 use Rattle.from_record.proofs.value_in.Tie as tie
 
-shown-in-requires : tie.Need-shown-in-requires
+shown-in-requires : tie.Need-shown_in-shown-requires
 shown-in-requires c κs = search (rules, modulus_of, positive)
 
-value-of-requires : tie.Need-value-of-requires
+value-of-requires : tie.Need-value_of-requires
 value-of-requires c κs =
-    let shown = c.before.shown-in.ensures in
-    (c.before.before.before.requires.0, shown.parties_only, (shown.gathered c.if1.true).below)
+    let shown = c.shown_in-shown.ensures in
+    (c.requires.0, shown.parties_only, (shown.gathered c.if-shown.true).below)
 
-returns : tie.Need-returns
+returns : tie.Need-returns-then-shown
 returns c = search (rules, found_shown)
 
-returns-2 : tie.Need-returns-2
+returns-2 : tie.Need-returns-else-shown
 returns-2 c = search (rules, modulus_of, positive, found_above)
 
-pub value-in-spec : {M : Type 1} → statement M
-value-in-spec = tie.close (tie.spec shown-in-requires value-of-requires returns returns-2)
+pub value_in_spec : {M : Type 1} → statement M
+value_in_spec = tie.close (tie.spec shown-in-requires value-of-requires returns returns-2)

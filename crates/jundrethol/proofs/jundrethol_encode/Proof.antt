@@ -13,5 +13,5 @@ returns c =
     let is = held_is c.before.ranges.a in
     (e.0 ∙ ap (encode_number _ _) is, e.1 ∙ ap (encode_value _ _) is)
 
-pub jundrethol-encode-spec : {M : Type 1} → statement M
-jundrethol-encode-spec = tie.close (tie.spec (λ c κs. search rules) returns)
+pub jundrethol_encode_spec : {M : Type 1} → statement M
+jundrethol_encode_spec = tie.close (tie.spec (λ c κs. search rules) returns)

@@ -8,7 +8,7 @@ use Rattle.jundrethol.proofs.jundrethol_replay.Tie as tie
 returns : tie.Need-returns
 returns c = search (rules, handed_replay)
 
-pub jundrethol-replay-spec : {M : Type 1} → statement M
-jundrethol-replay-spec =
+pub jundrethol_replay_spec : {M : Type 1} → statement M
+jundrethol_replay_spec =
     tie.close
     (tie.spec (λ c κs. search rules) (λ c. search rules) (λ c κs. search rules) (λ c κs. search rules) (λ c. search rules) (λ c. search rules) returns)

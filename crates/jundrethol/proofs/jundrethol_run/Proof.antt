@@ -8,8 +8,8 @@ use Rattle.jundrethol.proofs.jundrethol_run.Tie as tie
 returns : tie.Need-returns
 returns c = search (rules, handed)
 
-pub jundrethol-run-spec : {M : Type 1} → statement M
-jundrethol-run-spec =
+pub jundrethol_run_spec : {M : Type 1} → statement M
+jundrethol_run_spec =
     tie.close
     (tie.spec (λ c κs. search rules) (λ c κs. search rules) (λ c. search rules) (λ c. search rules)
     (λ c. search rules) (λ c. search rules) (λ c. search rules) returns)

@@ -8,7 +8,7 @@ use Rattle.presence.proofs.all_present.Statement.{statement}
 use Rattle.presence.proofs.all_present.Tie as tie
 
 returns : tie.Need-returns
-returns c = ap (λ (b : ℕ). eqb c.before.before.args.present b) (c.wide.ensures.0 ∙ c.before.everyone.ensures)
+returns c = ap (λ (b : ℕ). eqb c.args.present b) (c.wide.ensures.0 ∙ c.everyone.ensures)
 
-pub all-present-spec : {M : Type 1} → statement M
-all-present-spec = tie.close (tie.spec (λ c κs. search rules) (λ c κs. search rules) returns)
+pub all_present_spec : {M : Type 1} → statement M
+all_present_spec = tie.close (tie.spec (λ c κs. search rules) (λ c κs. search rules) returns)

@@ -22,5 +22,5 @@ entry (suc (suc (suc (suc (suc (suc zero)))))) h = refl
 entry (suc (suc (suc (suc (suc (suc (suc zero))))))) h = refl
 entry (suc (suc (suc (suc (suc (suc (suc (suc n)))))))) h = absurd (omega arith)
 
-pub everyone-spec : {M : Type 1} → statement M
-everyone-spec = tie.close (tie.spec (λ c. search rules) (λ c. entry _ (omega arith)))
+pub everyone_spec : {M : Type 1} → statement M
+everyone_spec = tie.close (tie.spec (λ c. search rules) (λ c. entry _ (omega arith)))

@@ -5,7 +5,7 @@ use borrow.Author.Rules.{rules}
 use Rattle.presence.proofs.look_at.Statement.{statement}
 use Rattle.presence.proofs.look_at.Tie as tie
 
-pub look-at-spec : {M : Type 1} → statement M
-look-at-spec =
+pub look_at_spec : {M : Type 1} → statement M
+look_at_spec =
     tie.close
     (tie.spec (λ c. search rules) (λ c κs. search rules) (λ c κs. search rules) (λ c κs. search rules) (λ c. search (rules, takes)) (λ c. search (rules, enough)) (λ c. search (rules, absent)))

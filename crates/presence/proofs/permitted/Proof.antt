@@ -5,5 +5,5 @@ use borrow.Author.Rules.{rules}
 use Rattle.presence.proofs.permitted.Statement.{statement}
 use Rattle.presence.proofs.permitted.Tie as tie
 
-pub permitted-spec : {M : Type 1} → statement M
-permitted-spec = tie.close (tie.spec (λ c κs. search rules) (λ c. search (rules, everyone_may)) (λ c. search rules) (λ c κs. search rules) (λ c. search rules) (λ c. search (rules, permits)) (λ c. search (rules, bits_beyond)))
+pub permitted_spec : {M : Type 1} → statement M
+permitted_spec = tie.close (tie.spec (λ c κs. search rules) (λ c. search (rules, everyone_may)) (λ c. search rules) (λ c κs. search rules) (λ c. search rules) (λ c. search (rules, permits)) (λ c. search (rules, bits_beyond)))

@@ -69,20 +69,20 @@ module _ (l : List ℕ) {p : ℕ} (e x : ℕ) (t : T (every 64 (weight-test l)))
 with_bound : {p r : ℕ} (e x : ℕ) → 1 < p → r ≡ weight p (from 1 e) x → (r ≡ weight p (from 1 e) x) × (r < p)
 with_bound e x h q = (q, rw q (weight_lt h _ _))
 
-sub-result : tie.Need-overflow-sub-result
+sub-result : tie.Need-overflow_sub-result
 unfolding place weight-test entry signed weight ratio reciprocal inverse modulus from mul sub
 sub-result c = search (rules, binomial-fits)
 
-returns : tie.Need-returns
+returns : tie.Need-returns-then-x-eq1
 unfolding place weight-test entry signed weight ratio reciprocal inverse modulus from mul sub
-returns c = with_bound c.before.args.e c.before.args.x (omega arith) (search (rules, weight-odd))
+returns c = with_bound c.args.e c.args.x (omega arith) (search (rules, weight-odd))
 
-returns-2 : tie.Need-returns-2
+returns-2 : tie.Need-returns-else-x-eq1
 unfolding place weight-test entry signed weight ratio reciprocal inverse modulus from mul sub
-returns-2 c = with_bound c.before.args.e c.before.args.x (omega arith) (search (rules, weight-even))
+returns-2 c = with_bound c.args.e c.args.x (omega arith) (search (rules, weight-even))
 
-pub weight-spec : {M : Type 1} → statement M
-weight-spec =
+pub weight_spec : {M : Type 1} → statement M
+weight_spec =
     tie.close
     (tie.spec (λ c. search rules) (λ c. search rules) (λ c. search rules) (λ c. search rules) (λ c. search rules) (λ c. search rules) sub-result returns
     returns-2)

@@ -8,11 +8,11 @@ use Rattle.presence.proofs.weight_with.Tie as tie
 mul-requires : tie.Need-mul-requires
 mul-requires c κs = search (rules, modulus_of)
 
-returns : tie.Need-returns
-returns c = own_ratio _ _ _ c.before.requires.4 c.if1.true
+returns : tie.Need-returns-then-z-x
+returns c = own_ratio _ _ _ c.requires.4 c.if-z-x.true
 
-returns-2 : tie.Need-returns-2
-returns-2 c = rw (← c.before.ratio.ensures) c.mul.ensures
+returns-2 : tie.Need-returns-else-z-x
+returns-2 c = rw (← c.ratio.ensures) c.mul.ensures
 
-pub weight-with-spec : {M : Type 1} → statement M
-weight-with-spec = tie.close (tie.spec (λ c κs. search rules) mul-requires returns returns-2)
+pub weight_with_spec : {M : Type 1} → statement M
+weight_with_spec = tie.close (tie.spec (λ c κs. search rules) mul-requires returns returns-2)

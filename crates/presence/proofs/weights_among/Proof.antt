@@ -10,31 +10,31 @@ use native.Mathlib.Omega.{arith}
 use Rattle.presence.proofs.weights_among.Statement.{statement}
 use Rattle.presence.proofs.weights_among.Tie as tie
 
-abbrev invariant-loop : tie.invariant-loop
+abbrev invariant-loop : tie.invariant-loop-i
 invariant-loop field e parties weights₀ i₀ weights i = Weighing (modulus field) parties e i weights
 
-abbrev decreases-loop : tie.decreases-loop
+abbrev decreases-loop : tie.decreases-loop-i
 decreases-loop field e parties weights₀ i₀ weights i = e - i
 
-weight-among-requires : tie.Need-weight-among-requires invariant-loop decreases-loop
+weight-among-requires : tie.Need-weight_among-requires invariant-loop decreases-loop
 weight-among-requires c κs =
     let s = c.before.before in
-    let h : length s.args.t2 ≡ 4 = search rules in
+    let h : length s.args.parties ≡ 4 = search rules in
     (s.requires.0, s.requires.1, s.requires.2.at _ (omega arith), s.requires.2)
 
-loop-again : tie.Need-loop-preserved invariant-loop decreases-loop
+loop-again : tie.Need-loop-i-preserved invariant-loop decreases-loop
 loop-again c =
     let s = c.before.before.before in
-    let h : length s.args.t2 ≡ 4 = search rules in
-    weighing_more c.before.before.loop.invariant h s.requires.1 (omega arith) c.weight-among.ensures
+    let h : length s.args.parties ≡ 4 = search rules in
+    weighing_more c.loop-i.invariant h s.requires.1 (omega arith) c.weight_among.ensures
 
 returns : tie.Need-returns invariant-loop decreases-loop
 returns c =
     let s = c.before.before in
-    let h : length s.args.t2 ≡ 4 = search rules in
-    weighing_end c.before.loop.invariant h s.requires.1 (omega arith)
+    let h : length s.args.parties ≡ 4 = search rules in
+    weighing_end c.loop-i.invariant h s.requires.1 (omega arith)
 
-pub weights-among-spec : {M : Type 1} → statement M
-weights-among-spec =
+pub weights_among_spec : {M : Type 1} → statement M
+weights_among_spec =
     tie.close
     (tie.spec invariant-loop decreases-loop (λ c. weighing_start _ _ _) (λ c. search rules) (λ c. search rules) weight-among-requires (λ c. search rules) (λ c. search rules) (λ c. search rules) (λ c. search rules) loop-again returns)

@@ -15,5 +15,5 @@ by-lengths-requires c κs =
 returns-2 : tie.Need-returns-2
 returns-2 c = search count_refused
 
-pub by-header-spec : {M : Type 1} → statement M
-by-header-spec = tie.close (tie.spec (λ c κs. search rules) (λ c. search rules) by-lengths-requires (λ c. search rules) (λ c κs. search rules) (λ c. search rules) returns-2)
+pub by_header_spec : {M : Type 1} → statement M
+by_header_spec = tie.close (tie.spec (λ c κs. search rules) (λ c. search rules) by-lengths-requires (λ c. search rules) (λ c κs. search rules) (λ c. search rules) returns-2)

@@ -35,5 +35,5 @@ by-script-requires c κs =
 returns-4 : tie.Need-returns-4
 returns-4 c = search shares_wrong
 
-pub by-lengths-spec : {M : Type 1} → statement M
-by-lengths-spec = tie.close (tie.spec (λ c κs. search rules) returns rows-requires mul-if2 (λ c κs. search rules) returns-2 (λ c κs. search rules) by-script-requires (λ c κs. search rules) (λ c. search rules) returns-4)
+pub by_lengths_spec : {M : Type 1} → statement M
+by_lengths_spec = tie.close (tie.spec (λ c κs. search rules) returns rows-requires mul-if2 (λ c κs. search rules) returns-2 (λ c κs. search rules) by-script-requires (λ c κs. search rules) (λ c. search rules) returns-4)

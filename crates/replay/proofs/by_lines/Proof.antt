@@ -30,5 +30,5 @@ returns c =
     let start = own.before.before.before.before.before.before.before in
     lines_answer _ start.args.head.now start.args.part.now start.args.log.now start.requires.0 start.requires.1 own.own_of_lem.ensures start.requires.2 call.replay-lines.result start.requires.3 call.replay-lines.ensures c.answered.ensures
 
-pub by-lines-spec : {M : Type 1} → statement M
-by-lines-spec = tie.close (tie.spec read-numbers-requires (λ c. search rules) own-of-requires replay-lines-requires (λ c κs. search rules) returns)
+pub by_lines_spec : {M : Type 1} → statement M
+by_lines_spec = tie.close (tie.spec read-numbers-requires (λ c. search rules) own-of-requires replay-lines-requires (λ c κs. search rules) returns)

@@ -8,7 +8,7 @@ use Rattle.replay.proofs.by_script.Tie as tie
 returns : tie.Need-returns
 returns c = search script_refused
 
-pub by-script-spec : {M : Type 1} → statement M
-by-script-spec =
+pub by_script_spec : {M : Type 1} → statement M
+by_script_spec =
     tie.close
     (tie.spec (λ c. search rules) (λ c. search rules) (λ c. search rules) (λ c. search rules) (λ c κs. search rules) (λ c κs. search rules) returns (λ c κs. search rules) (λ c. search rules))

@@ -10,5 +10,5 @@ use Rattle.replay.proofs.nothing.Tie as tie
 returns : tie.Need-returns
 returns c = nothing_is _ _ c.none.ensures
 
-pub nothing-spec : {M : Type 1} → statement M
-nothing-spec = tie.close (tie.spec (λ c κs. search rules) returns)
+pub nothing_spec : {M : Type 1} → statement M
+nothing_spec = tie.close (tie.spec (λ c κs. search rules) returns)

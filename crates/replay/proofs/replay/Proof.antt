@@ -21,5 +21,5 @@ by-header-requires c κs =
 returns-3 : tie.Need-returns-3
 returns-3 c = search party_out
 
-pub replay-spec : {M : Type 1} → statement M
-replay-spec = tie.close (tie.spec (λ c κs. search rules) (λ c κs. search rules) returns seated-requires by-header-requires (λ c κs. search rules) (λ c. search rules) returns-3)
+pub replay_spec : {M : Type 1} → statement M
+replay_spec = tie.close (tie.spec (λ c κs. search rules) (λ c κs. search rules) returns seated-requires by-header-requires (λ c κs. search rules) (λ c. search rules) returns-3)

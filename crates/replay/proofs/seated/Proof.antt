@@ -22,5 +22,5 @@ returns-2 c =
     let e : c.wide.result ≡ get_or start.args.head.now 1 0 = search rules in
     some_seated start.args.party (get_or start.args.head.now 1 0) c.wide.result (search (rules, arith)) e
 
-pub seated-spec : {M : Type 1} → statement M
-seated-spec = tie.close (tie.spec returns (λ c. search rules) (λ c κs. search rules) returns-2)
+pub seated_spec : {M : Type 1} → statement M
+seated_spec = tie.close (tie.spec returns (λ c. search rules) (λ c κs. search rules) returns-2)

@@ -13,8 +13,8 @@ invariant-loop log₀ s i₀ log i = length log ≡ length log₀
 abbrev decreases-loop : tie.decreases-loop
 decreases-loop log₀ s i₀ log i = length log₀ - i
 
-pub put-numbers-spec : {M : Type 1} → statement M
-put-numbers-spec =
+pub put_numbers_spec : {M : Type 1} → statement M
+put_numbers_spec =
     tie.close
     (tie.spec invariant-loop decreases-loop (λ c. search rules) (λ c. search rules) (λ c κs. search rules) (λ c. search rules) (λ c. search rules) (λ c. search rules)
     (λ c. search rules) (λ c. search (rules, length-set)) (λ c. search rules) (λ c. search rules))

@@ -10,8 +10,8 @@ use Rattle.secret.proofs.secret_of.Tie as tie
 returns : tie.Need-returns
 returns c =
     let s = c.before in
-    let r = c.reduce-sum in
-    (rw s.secret-sum.ensures at r.ensures.0 ∙ sum_secret s.before.requires.0 _ (omega arith) _, r.ensures.1)
+    let r = c.reduce_sum in
+    (rw s.secret_sum.ensures at r.ensures.0 ∙ sum_secret s.requires.0 _ (omega arith) _, r.ensures.1)
 
-pub secret-of-spec : {M : Type 1} → statement M
-secret-of-spec = tie.close (tie.spec (λ c κs. search rules) (λ c κs. search rules) returns)
+pub secret_of_spec : {M : Type 1} → statement M
+secret_of_spec = tie.close (tie.spec (λ c κs. search rules) (λ c κs. search rules) returns)

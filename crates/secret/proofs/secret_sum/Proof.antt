@@ -7,7 +7,7 @@ use Rattle.secret.proofs.secret_sum.Statement.{statement}
 use Rattle.secret.proofs.secret_sum.Tie as tie
 
 returns : tie.Need-returns
-returns c = c.weighted-sum.ensures ∙ sum_from_first _ _ _
+returns c = c.weighted_sum.ensures ∙ sum_from_first _ _ _
 
-pub secret-sum-spec : {M : Type 1} → statement M
-secret-sum-spec = tie.close (tie.spec (λ c. search rules) (λ c κs. search rules) returns)
+pub secret_sum_spec : {M : Type 1} → statement M
+secret_sum_spec = tie.close (tie.spec (λ c. search rules) (λ c κs. search rules) returns)

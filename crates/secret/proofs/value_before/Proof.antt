@@ -5,7 +5,7 @@ use Rattle.secret.proofs.value_before.Statement.{statement}
 use Rattle.secret.proofs.value_before.Tie as tie
 
 returns : tie.Need-returns
-returns c = let r = c.reduce-sum in (rw (← c.before.weighted-sum.ensures) r.ensures.0, r.ensures.1)
+returns c = let r = c.reduce_sum in (rw (← c.weighted_sum.ensures) r.ensures.0, r.ensures.1)
 
-pub value-before-spec : {M : Type 1} → statement M
-value-before-spec = tie.close (tie.spec (λ c κs. search rules) (λ c κs. search rules) returns)
+pub value_before_spec : {M : Type 1} → statement M
+value_before_spec = tie.close (tie.spec (λ c κs. search rules) (λ c κs. search rules) returns)

@@ -32,17 +32,17 @@ half n t h k l = rw (le-leb 3 n h, le-leb n 7 k, le-leb 1 t l) (go (dec_le t ((n
     go (yes a) = rw (le-leb t ((n - 1) / 2) a) (le-leb (2 * t + 1) n (omega arith))
     go (no a) = rw (lt-leb t ((n - 1) / 2) (omega arith)) (lt-leb (2 * t + 1) n (omega arith))
 
-returns : tie.Need-returns
-returns c = sym (few _ _ c.if1.true)
+returns : tie.Need-returns-then-n-lt3
+returns c = sym (few _ _ c.if-n-lt3.true)
 
-returns-2 : tie.Need-returns-2
-returns-2 c = sym (many _ _ (omega arith) c.if2.true)
+returns-2 : tie.Need-returns-then-n-gt7
+returns-2 c = sym (many _ _ (omega arith) c.if-n-gt7.true)
 
-returns-3 : tie.Need-returns-3
+returns-3 : tie.Need-returns-then-t-lt1
 returns-3 c = sym (none _ _ (omega arith) (omega arith) (omega arith))
 
-returns-4 : tie.Need-returns-4
+returns-4 : tie.Need-returns
 returns-4 c = sym (half _ _ (omega arith) (omega arith) (omega arith))
 
-pub parties-spec : {M : Type 1} → statement M
-parties-spec = tie.close (tie.spec returns returns-2 returns-3 (λ c. search rules) returns-4)
+pub parties_spec : {M : Type 1} → statement M
+parties_spec = tie.close (tie.spec returns returns-2 returns-3 (λ c. search rules) returns-4)

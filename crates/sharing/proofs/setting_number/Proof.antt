@@ -6,6 +6,6 @@ use Rattle.model.proofs.Trying.{trying}
 use Rattle.sharing.proofs.setting_number.Statement.{statement}
 use Rattle.sharing.proofs.setting_number.Tie as tie
 
-pub setting-number-spec : {M : Type 1} → statement M
+pub setting_number_spec : {M : Type 1} → statement M
 unfolding setting_tests
-setting-number-spec = tie.close (tie.spec (λ c κs. search rules) (λ c. search (rules, trying)) (λ c κs. search rules) (λ c. search (rules, trying)) (λ c. search (rules, trying)))
+setting_number_spec = tie.close (tie.spec (λ c κs. search rules) (λ c. search (rules, trying)) (λ c κs. search rules) (λ c. search (rules, trying)) (λ c. search (rules, trying)))

@@ -7,11 +7,11 @@ use Rattle.sharing.proofs.Numbers.{below_told}
 use Rattle.sharing.proofs.share_number.Statement.{statement}
 use Rattle.sharing.proofs.share_number.Tie as tie
 
-modulus-requires : tie.Need-modulus-requires
+modulus-requires : tie.Need-modulus-p-requires
 modulus-requires c κs = search (rules, trying)
 
-pub share-number-spec : {M : Type 1} → statement M
+pub share_number_spec : {M : Type 1} → statement M
 unfolding share_tests
-share-number-spec =
+share_number_spec =
     tie.close
     (tie.spec (λ c κs. search rules) (λ c. search (rules, trying)) (λ c. search (rules, trying)) (λ c. search (rules, trying)) modulus-requires (λ c. search (rules, trying) depth 9) (λ c κs. search rules) (λ c. search (rules, trying, below_told) depth 9) (λ c. search (rules, trying, below_told) depth 9))

@@ -8,17 +8,17 @@ use native.Mathlib.Omega.{arith}
 use Rattle.sharing.proofs.sum.Statement.{statement}
 use Rattle.sharing.proofs.sum.Tie as tie
 
-accepted : (c : tie.Else1) → let a = c.before.before.before.args in Recovers a.field a.n a.t a.row.now a.t
-accepted c = recover_accepted _ _ _ _ _ (sym c.before.recover-number.ensures ∙ c.if1.false)
+accepted : (c : tie.Else-number-ne0) → let a = c.args in Recovers a.field a.n a.t a.row.now a.t
+accepted c = recover_accepted _ _ _ _ _ (sym c.recover_number-number.ensures ∙ c.if-number-ne0.false)
 
 gather-requires : tie.Need-gather-requires
 gather-requires c κs = let A = accepted c.before in omega (arith, A.shares)
 
-secret-sum-requires : tie.Need-secret-sum-requires
-secret-sum-requires c κs = let A = accepted c.before.before in (c.before.modulus.ensures.1, omega (arith, A.people))
+secret-sum-requires : tie.Need-secret_sum-sum-requires
+secret-sum-requires c κs = let A = accepted c.before.before in (c.modulus-p.ensures.1, omega (arith, A.people))
 
-pub sum-spec : {M : Type 1} → statement M
-sum-spec =
+pub sum_spec : {M : Type 1} → statement M
+sum_spec =
     tie.close
     (tie.spec (λ c κs. search rules) (λ c. search (rules, summed_number, summed_refused)) (λ c κs. (accepted c).field) gather-requires secret-sum-requires
     (λ c. search (rules, summed_done, summed_value)))

@@ -7,6 +7,6 @@ use borrow.Author.Rules.{rules}
 use Rattle.sheet.proofs.body_number.Statement.{statement}
 use Rattle.sheet.proofs.body_number.Tie as tie
 
-pub body-number-spec : {M : Type 1} → statement M
+pub body_number_spec : {M : Type 1} → statement M
 unfolding length_tests
-body-number-spec = tie.close (tie.spec (λ c κs. search rules) (λ c κs. search (rules, whole)) (λ c. search (rules, trying)) (λ c. search (rules, trying)))
+body_number_spec = tie.close (tie.spec (λ c κs. search rules) (λ c κs. search (rules, whole)) (λ c. search (rules, trying)) (λ c. search (rules, trying)))

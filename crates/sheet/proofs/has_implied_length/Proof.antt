@@ -10,5 +10,5 @@ use Rattle.sheet.proofs.has_implied_length.Tie as tie
 same_test : (n : ℕ) {a b : ℕ} → a ≡ b → eqb n a ≡ eqb n b
 same_test n e = ap (eqb n) e
 
-pub has-implied-length-spec : {M : Type 1} → statement M
-has-implied-length-spec = tie.close (tie.spec (λ c κs. search rules) (λ c. search (rules, same_test)))
+pub has_implied_length_spec : {M : Type 1} → statement M
+has_implied_length_spec = tie.close (tie.spec (λ c κs. search rules) (λ c. search (rules, same_test)))

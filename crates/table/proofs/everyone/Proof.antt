@@ -32,7 +32,7 @@ by_n : (s : List ℕ) (b : ℕ) → b ≡ Presence.everyone (get_or s 1 0) → E
 unfolding header_of
 by_n s b e log revealed = ap (λ (x : ℕ). run x s log revealed) e
 
-pub everyone-spec : {M : Type 1} → statement M
-everyone-spec =
+pub everyone_spec : {M : Type 1} → statement M
+everyone_spec =
     tie.close
     (tie.spec (λ c. search (rules, too_short)) (λ c. search rules) (λ c. search (rules, too_many)) (λ c. search rules) (λ c κs. search rules) (λ c. search (rules, by_n)))

@@ -24,5 +24,5 @@ returns c = search (run-at-0, rules)
 returns-2 : tie.Need-returns-2
 returns-2 c = search (run-from-21, rules)
 
-pub is-run-spec : {M : Type 1} → statement M
-is-run-spec = tie.close (tie.spec returns returns-2)
+pub is_run_spec : {M : Type 1} → statement M
+is_run_spec = tie.close (tie.spec returns returns-2)

@@ -35,5 +35,5 @@ ample s log revealed b h k every q =
 returns : tie.Need-returns
 returns c = search (rules, ample)
 
-pub run-ample-spec : {M : Type 1} → statement M
-run-ample-spec = tie.close (tie.spec (λ c κs. search rules) (λ c κs. search rules) (λ c. search rules) (λ c. search rules) returns)
+pub run_ample_spec : {M : Type 1} → statement M
+run_ample_spec = tie.close (tie.spec (λ c κs. search rules) (λ c κs. search rules) (λ c. search rules) (λ c. search rules) returns)

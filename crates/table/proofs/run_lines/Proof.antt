@@ -18,8 +18,8 @@ opened-requires c κs =
     let H = header_frame _ found.before.before.read-header.ensures found.f.given.1 in
     rw H.n_is found.before.before.before.before.before.before.requires.0
 
-pub run-lines-spec : {M : Type 1} → statement M
-run-lines-spec =
+pub run_lines_spec : {M : Type 1} → statement M
+run_lines_spec =
     tie.close
     (tie.spec (λ c κs. search rules) (λ c. search rules) (λ c. search rules) (λ c. search rules) shared-slice-read-wide (λ c κs. search rules)
     (λ c κs. search rules) opened-requires (λ c κs. search rules) (λ c. search rules))

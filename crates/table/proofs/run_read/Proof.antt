@@ -9,5 +9,5 @@ use Rattle.table.proofs.run_read.Tie as tie
 slice-aggregate-run-sheet : tie.Need-slice-aggregate-run-sheet
 slice-aggregate-run-sheet c = sym (length-take-le _ _ c.before.before.requires.1)
 
-pub run-read-spec : {M : Type 1} → statement M
-run-read-spec = tie.close (tie.spec slice-aggregate-run-sheet (λ c κs. search rules) (λ c. search rules))
+pub run_read_spec : {M : Type 1} → statement M
+run_read_spec = tie.close (tie.spec slice-aggregate-run-sheet (λ c κs. search rules) (λ c. search rules))

@@ -10,8 +10,8 @@ returns : tie.Need-returns
 unfolding number
 returns c = omega arith
 
-pub half-word-spec : {M : Type 1} → statement M
-half-word-spec =
+pub half_word_spec : {M : Type 1} → statement M
+half_word_spec =
     tie.close
     (tie.spec (λ c. search rules) (λ c κs. search rules) (λ c. search rules) (λ c. search rules) (λ c κs. search rules) (λ c. search rules) (λ c. search rules)
     returns)

@@ -15,7 +15,7 @@ halves s i e f =
     let b : i + 1 + 1 ≡ i + 2 = omega arith in
     rw b (omega arith)
 
-pub word-spec : {M : Type 1} → statement M
-word-spec =
+pub word_spec : {M : Type 1} → statement M
+word_spec =
     tie.close
     (tie.spec (λ c κs. search rules) (λ c. search rules) (λ c κs. search rules) (λ c. search rules) (λ c. search rules) (λ c. search halves))

@@ -6,6 +6,6 @@ use Rattle.calls.specs.Meaning.{call_of}
 use Rattle.calls.proofs.call.lasted.Statement.{statement}
 use Rattle.calls.proofs.call.lasted.Tie as tie
 
-pub lasted-spec : {M : Type 1} → statement M
+pub lasted_spec : {M : Type 1} → statement M
 unfolding call_of
-lasted-spec = tie.close (tie.spec (λ c. search rules) (λ c. refl))
+lasted_spec = tie.close (tie.spec (λ c. search rules) (λ c. refl))

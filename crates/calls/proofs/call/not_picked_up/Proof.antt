@@ -8,6 +8,6 @@ use Rattle.calls.proofs.Lasting.{unanswered_early, unanswered}
 use Rattle.calls.proofs.call.not_picked_up.Statement.{statement}
 use Rattle.calls.proofs.call.not_picked_up.Tie as tie
 
-pub not-picked-up-spec : {M : Type 1} → statement M
+pub not_picked_up_spec : {M : Type 1} → statement M
 unfolding call_of
-not-picked-up-spec = tie.close (tie.spec (λ c κs. search rules) (λ c. search (rules, unanswered_early)) (λ c. unanswered _ _ (omega arith) refl))
+not_picked_up_spec = tie.close (tie.spec (λ c κs. search rules) (λ c. search (rules, unanswered_early)) (λ c. unanswered _ _ (omega arith) refl))

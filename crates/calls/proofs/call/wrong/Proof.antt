@@ -5,6 +5,6 @@ use Rattle.calls.specs.Meaning.{call_of}
 use Rattle.calls.proofs.call.wrong.Statement.{statement}
 use Rattle.calls.proofs.call.wrong.Tie as tie
 
-pub wrong-spec : {M : Type 1} → statement M
+pub wrong_spec : {M : Type 1} → statement M
 unfolding call_of
-wrong-spec = tie.close (tie.spec (λ c. refl))
+wrong_spec = tie.close (tie.spec (λ c. refl))

@@ -8,10 +8,10 @@ use Rattle.calls.proofs.Scanning.{plain_time}
 use Rattle.calls.proofs.field.non_escaped.Statement.{statement}
 use Rattle.calls.proofs.field.non_escaped.Tie as tie
 
-slice-aggregate-read-time : tie.Need-slice-aggregate-read-time
-slice-aggregate-read-time c = sym (length-take-le _ _ c.before.plain-length.ensures.0)
+slice-aggregate-read-time : tie.Need-slice_bounds-read_time-end
+slice-aggregate-read-time c = sym (length-take-le _ _ c.plain_length-size.ensures.0)
 
-pub non-escaped-spec : {M : Type 1} → statement M
+pub non_escaped_spec : {M : Type 1} → statement M
 unfolding field_of
-non-escaped-spec =
+non_escaped_spec =
     tie.close (tie.spec (λ c κs. search rules) slice-aggregate-read-time (λ c κs. search rules) (λ c. search (rules, plain_time)))

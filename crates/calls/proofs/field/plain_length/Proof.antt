@@ -7,14 +7,14 @@ use Rattle.calls.proofs.Scanning.{Plain, plain_start, plain_more, plain_stops, p
 use Rattle.calls.proofs.field.plain_length.Statement.{statement}
 use Rattle.calls.proofs.field.plain_length.Tie as tie
 
-abbrev invariant-loop : tie.invariant-loop
+abbrev invariant-loop : tie.invariant-loop-i
 invariant-loop text i₀ i = Plain text i
 
-abbrev decreases-loop : tie.decreases-loop
+abbrev decreases-loop : tie.decreases-loop-i
 decreases-loop text i₀ i = length text - i
 
-pub plain-length-spec : {M : Type 1} → statement M
-plain-length-spec =
+pub plain_length_spec : {M : Type 1} → statement M
+plain_length_spec =
     tie.close
     (tie.spec invariant-loop decreases-loop (λ c. plain_start _) (λ c. search rules) (λ c κs. search rules) (λ c. search rules) (λ c. search rules) (λ c. search (rules, plain_more))
     (λ c. search (rules, plain_stops)) (λ c. search (rules, plain_ends)))

@@ -7,17 +7,17 @@ use Rattle.calls.proofs.Quoting.{Quoting, quoting_start, quoting_more, quoting_t
 use Rattle.calls.proofs.field.quoted_length.Statement.{statement}
 use Rattle.calls.proofs.field.quoted_length.Tie as tie
 
-abbrev invariant-loop : tie.invariant-loop
+abbrev invariant-loop : tie.invariant-loop-i
 invariant-loop text i₀ i = Quoting text i
 
-abbrev decreases-loop : tie.decreases-loop
+abbrev decreases-loop : tie.decreases-loop-i
 decreases-loop text i₀ i = length text - i
 
-loop-again : tie.Need-loop-preserved invariant-loop decreases-loop
+loop-again : tie.Need-loop-i-preserved-then-stands invariant-loop decreases-loop
 loop-again c = search (rules, quoting_two)
 
-pub quoted-length-spec : {M : Type 1} → statement M
-quoted-length-spec =
+pub quoted_length_spec : {M : Type 1} → statement M
+quoted_length_spec =
     tie.close
     (tie.spec invariant-loop decreases-loop (λ c. quoting_start _) (λ c. search rules) (λ c. search rules) (λ c κs. search rules) (λ c. search rules) (λ c. search rules) loop-again
     (λ c. search (rules, quoting_closed)) (λ c κs. search rules) (λ c. search rules) (λ c. search rules) (λ c. search (rules, quoting_more))

@@ -7,9 +7,9 @@ use Rattle.calls.proofs.field.read_from.Statement.{statement}
 use Rattle.calls.proofs.field.read_from.Tie as tie
 
 returns : tie.Need-returns
-returns c = (field_from _ _ _ _ c.before.read-field.ensures.0 refl, search rules)
+returns c = (field_from _ _ _ _ c.read_field-field.ensures.0 refl, search rules)
 
-pub read-from-spec : {M : Type 1} → statement M
-read-from-spec =
+pub read_from_spec : {M : Type 1} → statement M
+read_from_spec =
     tie.close
     (tie.spec (λ c. search rules) (λ c. search rules) (λ c. search rules) (λ c κs. search rules) (λ c. search rules) returns)

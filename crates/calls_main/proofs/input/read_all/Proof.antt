@@ -14,8 +14,8 @@ invariant-loop list₀ done₀ list done = (length list ≡ length list₀) × (
 abbrev decreases-loop : tie.decreases-loop
 decreases-loop list₀ done₀ list done = length list₀ - done
 
-pub read-all-spec : {M : Type 1} → statement M
-read-all-spec =
+pub read_all_spec : {M : Type 1} → statement M
+read_all_spec =
     tie.close
     (tie.spec invariant-loop decreases-loop (λ c. (refl, omega arith)) (λ c κs. search rules) (λ c. search rules) (λ c. search rules) (λ c. search rules) (λ c. search rules)
     (λ c. search rules) (λ c. search rules) (λ c. search rules) (λ c. search rules) (λ c. search rules))

@@ -11,8 +11,8 @@ invariant-loop seconds calls i₀ i = i ≤ calls
 abbrev decreases-loop : tie.decreases-loop
 decreases-loop seconds calls i₀ i = calls - i
 
-pub call-lines-spec : {M : Type 1} → statement M
-call-lines-spec =
+pub call_lines_spec : {M : Type 1} → statement M
+call_lines_spec =
     tie.close
     (tie.spec invariant-loop decreases-loop (λ c. search rules) (λ c. search rules) (λ c. search rules) (λ c κs. search rules) (λ c. search rules) (λ c. search rules) (λ c. search rules)
     (λ c. search rules) (λ c. search rules))

@@ -26,5 +26,5 @@ not-blank (suc cell) h = refl
 returns-3 : tie.Need-returns-3
 returns-3 c = (rw c.before.if1.false (sym (not-blank _ c.if2.false)), omega arith)
 
-pub blank-spec : {M : Type 1} → statement M
-blank-spec = tie.close (tie.spec returns returns-2 returns-3)
+pub blank_spec : {M : Type 1} → statement M
+blank_spec = tie.close (tie.spec returns returns-2 returns-3)

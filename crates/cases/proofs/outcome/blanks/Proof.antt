@@ -40,8 +40,8 @@ loop-again c =
 returns : tie.Need-returns invariant-loop decreases-loop
 returns c = at_end _ _ _ _ c.before.loop.invariant.0 (omega arith)
 
-pub blanks-spec : {M : Type 1} → statement M
-blanks-spec =
+pub blanks_spec : {M : Type 1} → statement M
+blanks_spec =
     tie.close
     (tie.spec invariant-loop decreases-loop loop-holds (λ c. search rules) (λ c. search rules) (λ c. search rules) (λ c κs. search rules) (λ c. search rules)
     (λ c. search rules) (λ c. search rules) loop-again returns)

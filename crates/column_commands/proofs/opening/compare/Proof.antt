@@ -6,12 +6,11 @@ use Rattle.column_commands.proofs.opening.compare.Tie as tie
 
 returns : tie.Need-returns
 returns c =
-    let call = c.before in
     record {
-      made = call.comparison-from.result;
-      comes = call.comparison-from.ensures;
+      made = c.comparison_from-made.result;
+      comes = c.comparison_from-made.ensures;
       stores = c.stored.ensures;
     }
 
-pub compare-spec : {M : Type 1} → statement M
-compare-spec = tie.close (tie.spec (λ c κs. search rules) (λ c κs. search rules) returns)
+pub compare_spec : {M : Type 1} → statement M
+compare_spec = tie.close (tie.spec (λ c κs. search rules) (λ c κs. search rules) returns)

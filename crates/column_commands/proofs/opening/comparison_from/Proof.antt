@@ -8,7 +8,7 @@ use Rattle.column_commands.proofs.opening.comparison_from.Tie as tie
 returns : tie.Need-returns
 returns c = rw (rest_cells _ _) at c.comparison.ensures
 
-pub comparison-from-spec : {M : Type 1} → statement M
-comparison-from-spec =
+pub comparison_from_spec : {M : Type 1} → statement M
+comparison_from_spec =
     tie.close
     (tie.spec (λ c. search rules) (λ c. search rules) (λ c. search rules) (λ c. search rules) (λ c. search rules) (λ c κs. search rules) returns)

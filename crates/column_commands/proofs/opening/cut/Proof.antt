@@ -6,10 +6,9 @@ use Rattle.column_commands.proofs.opening.cut.Tie as tie
 
 returns : tie.Need-returns
 returns c =
-    let call = c.before in
     record {
-      made = call.cut-row.result;
-      comes = rw call.before.register.ensures at call.cut-row.ensures;
+      made = c.cut_row-made.result;
+      comes = rw c.register-row.ensures at c.cut_row-made.ensures;
       stores = c.stored.ensures;
     }
 

@@ -6,12 +6,11 @@ use Rattle.column_commands.proofs.opening.multiply.Tie as tie
 
 returns : tie.Need-returns
 returns c =
-    let call = c.before in
     record {
-      made = call.product.result;
-      comes = rw (call.before.before.before.before.before.register.ensures, call.before.register2.ensures) at call.product.ensures;
+      made = c.product-made.result;
+      comes = rw (c.register-left.ensures, c.register-right.ensures) at c.product-made.ensures;
       stores = c.stored.ensures;
     }
 
-pub multiply-spec : {M : Type 1} → statement M
-multiply-spec = tie.close (tie.spec (λ c κs. search rules) (λ c κs. search rules) (λ c κs. search rules) (λ c κs. search rules) returns)
+pub multiply_spec : {M : Type 1} → statement M
+multiply_spec = tie.close (tie.spec (λ c κs. search rules) (λ c κs. search rules) (λ c κs. search rules) (λ c κs. search rules) returns)

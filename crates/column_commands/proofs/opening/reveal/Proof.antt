@@ -5,7 +5,7 @@ use Rattle.column_commands.proofs.opening.reveal.Statement.{statement}
 use Rattle.column_commands.proofs.opening.reveal.Tie as tie
 
 returns : tie.Need-returns
-returns c = rw c.before.register.ensures at c.open_row.ensures
+returns c = rw c.register-row.ensures at c.open_row.ensures
 
-pub reveal-spec : {M : Type 1} → statement M
-reveal-spec = tie.close (tie.spec (λ c κs. search rules) (λ c κs. search rules) returns)
+pub reveal_spec : {M : Type 1} → statement M
+reveal_spec = tie.close (tie.spec (λ c κs. search rules) (λ c κs. search rules) returns)

@@ -8,8 +8,8 @@ use Rattle.column_commands.proofs.signs.past_sign.Tie as tie
 returns : tie.Need-returns
 returns c = search (rules, sign_past)
 
-pub past-sign-spec : {M : Type 1} → statement M
-past-sign-spec =
+pub past_sign_spec : {M : Type 1} → statement M
+past_sign_spec =
     tie.close
     (tie.spec (λ c. search rules) (λ c. search rules) (λ c. search rules) (λ c. search rules) (λ c. search rules) (λ c. search rules) (λ c. search rules) (λ c. search rules)
     (λ c. search rules) (λ c. search rules) (λ c. search rules) returns)

@@ -8,8 +8,8 @@ use Rattle.column_form.proofs.layout.by_lengths.Statement.{statement}
 use Rattle.column_form.proofs.layout.by_lengths.Tie as tie
 
 -- `le_of_lt` is for the edit `exact_output_refused`, which tests `<`: the return with 0 then still holds, and the one with 15 is refused.
-pub by-lengths-spec : {M : Type 1} → statement M
-by-lengths-spec =
+pub by_lengths_spec : {M : Type 1} → statement M
+by_lengths_spec =
     tie.close
     (tie.spec (λ c κs. search rules) (λ c κs. search (rules, row_count)) (λ c κs. search rules) (λ c κs. search rules)
     (λ c. search (rules, long_enough, le_of_lt)) (λ c. search (rules, too_short, length_wrong)) (λ c. search (rules, too_short, length_wrong)))

@@ -6,17 +6,17 @@ use Rattle.column_form.proofs.Copying.{ColumnLoop, column_start, loop_length, lo
 use Rattle.column_form.proofs.shares.copy_column.Statement.{statement}
 use Rattle.column_form.proofs.shares.copy_column.Tie as tie
 
-abbrev invariant-loop : tie.invariant-loop
+abbrev invariant-loop : tie.invariant-loop-k
 invariant-loop s from out₀ to rows read₀ write₀ k₀ out read write k = ColumnLoop s from to rows out₀ read write k out
 
-abbrev decreases-loop : tie.decreases-loop
+abbrev decreases-loop : tie.decreases-loop-k
 decreases-loop s from out₀ to rows read₀ write₀ k₀ out read write k = rows - k
 
-copy-share-requires : tie.Need-copy-share-requires invariant-loop decreases-loop
+copy-share-requires : tie.Need-copy_share-requires invariant-loop decreases-loop
 copy-share-requires c κs = search (rules, loop_reads, loop_writes)
 
-pub copy-column-spec : {M : Type 1} → statement M
-copy-column-spec =
+pub copy_column_spec : {M : Type 1} → statement M
+copy_column_spec =
     tie.close
     (tie.spec invariant-loop decreases-loop (λ c. column_start _ _ _ _ _) copy-share-requires (λ c. search (rules, loop_reads_on)) (λ c. search (rules, loop_writes_on))
     (λ c. search rules) (λ c. search rules) (λ c. search (rules, loop_more)) (λ c. search (rules, loop_length)) (λ c. search (rules, loop_end)))

@@ -7,8 +7,8 @@ use Rattle.column_form.proofs.Copying.{share_copied}
 use Rattle.column_form.proofs.shares.copy_share.Statement.{statement}
 use Rattle.column_form.proofs.shares.copy_share.Tie as tie
 
-pub copy-share-spec : {M : Type 1} → statement M
-copy-share-spec =
+pub copy_share_spec : {M : Type 1} → statement M
+copy_share_spec =
     tie.close
     (tie.spec (λ c. search rules) (λ c. search rules) (λ c. search rules) (λ c. search rules) (λ c. search rules) (λ c. search rules) (λ c. search rules)
     (λ c. search rules) (λ c. search rules) (λ c. simp length-set (omega arith)) (λ c. search rules) (λ c. simp length-set (omega arith))

@@ -5,10 +5,10 @@ use Rattle.column_form.proofs.Written.{sheet_fits, column_fits, sheet_spaced, co
 use Rattle.column_form.proofs.shares.turn_back.Statement.{statement}
 use Rattle.column_form.proofs.shares.turn_back.Tie as tie
 
-copy-blocks-requires : tie.Need-copy-blocks-requires
+copy-blocks-requires : tie.Need-copy_blocks-requires
 copy-blocks-requires c κs = search (rules, sheet_fits, column_fits, sheet_spaced, column_spaced)
 
-pub turn-back-spec : {M : Type 1} → statement M
-turn-back-spec =
+pub turn_back_spec : {M : Type 1} → statement M
+turn_back_spec =
     tie.close
     (tie.spec (λ c κs. search rules) (λ c κs. search rules) (λ c κs. search rules) copy-blocks-requires (λ c. search rules) (λ c. search (rules, turned_back)))

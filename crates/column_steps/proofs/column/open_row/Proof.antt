@@ -8,5 +8,5 @@ use Rattle.column_steps.proofs.column.open_row.Tie as tie
 returns : tie.Need-returns
 returns c = search opens_next
 
-pub open-row-spec : {M : Type 1} → statement M
-open-row-spec = tie.close (tie.spec (λ c. search rules) (λ c. search rules) (λ c κs. search rules) returns)
+pub open_row_spec : {M : Type 1} → statement M
+open_row_spec = tie.close (tie.spec (λ c. search rules) (λ c. search rules) (λ c κs. search rules) returns)

@@ -10,54 +10,35 @@ use Rattle.column_steps.proofs.Products.{first_refused, second_refused, product_
 use Rattle.column_steps.proofs.product.product.Statement.{statement}
 use Rattle.column_steps.proofs.product.product.Tie as tie
 
-returns : tie.Need-returns
+returns : tie.Need-returns-then-first-ne0
 returns c =
-    let call = c.before.before in
-    let read = call.before.before.before.before in
-    let start = read.before.before.before in
-    first_refused start.requires.0 start.args.part.now start.args.log.now start.args.at _ _ read.read-row.ensures call.before.sub-rows.ensures call.open_row.ensures c.if1.true refl
+    first_refused c.requires.0 c.args.part.now c.args.log.now c.args.at _ _ c.read_row-a.ensures c.sub_rows.ensures c.open_row-first.ensures c.if-first-ne0.true refl
 
-add-open-row : tie.Need-overflow-add-open-row
+add-open-row : tie.Need-overflow_add-at
 add-open-row c =
-    let call = c.before.before.before in
-    let start = call.before.before.before.before.before.before.before in
-    let l : length start.args.log.now < 2 ^ 64 = search rules in
-    record { fits = counts_on start.args.log.now _ start.requires.0 (call.open_row.ensures.there c.before.if1.false) l }
+    let l : length c.args.log.now < 2 ^ 64 = search rules in
+    record { fits = counts_on c.args.log.now _ c.requires.0 (c.open_row-first.ensures.there c.if-first-ne0.false) l }
 
-open-row-requires-2 : tie.Need-open-row-requires-2
+open-row-requires-2 : tie.Need-open_row-second-requires
 open-row-requires-2 c κs =
-    let on = c.before.before in
-    let call = on.before.before in
-    let start = call.before.before.before.before.before.before.before in
-    (start.requires.0, call.open_row.ensures.there on.if1.false)
+    (c.requires.0, c.open_row-first.ensures.there c.if-first-ne0.false)
 
-returns-2 : tie.Need-returns-2
+returns-2 : tie.Need-returns-then-second-ne0
 returns-2 c =
-    let call = c.before.before in
-    let on = call.before.before.before in
-    let first = on.before.before in
-    let read = first.before.before.before.before in
-    let start = read.before.before.before in
-    second_refused start.requires.0 start.args.part.now start.args.log.now start.args.at _ _ read.read-row.ensures first.before.sub-rows.ensures first.open_row.ensures
-    on.if1.false first.before.before.before.read-row2.ensures call.before.sub-rows2.ensures call.open-row2.ensures c.if2.true refl
+    second_refused c.requires.0 c.args.part.now c.args.log.now c.args.at _ _ c.read_row-a.ensures c.sub_rows.ensures c.open_row-first.ensures
+    c.if-first-ne0.false c.read_row-b.ensures c.sub_rows-2.ensures c.open_row-second.ensures c.if-second-ne0.true refl
 
 beaver-requires : tie.Need-beaver-requires
 beaver-requires c κs =
-    let first = c.before.before.before.before.before.before.before in
-    first.before.before.before.before.before.before.before.requires.0.fitting
+    c.requires.0.fitting
 
-returns-3 : tie.Need-returns-3
+returns-3 : tie.Need-returns
 returns-3 c =
-    let call = c.before.before.before in
-    let on = call.before.before.before in
-    let first = on.before.before in
-    let read = first.before.before.before.before in
-    let start = read.before.before.before in
-    product_comes start.requires.0 start.args.part.now start.args.log.now start.args.at _ _ read.read-row.ensures first.before.sub-rows.ensures first.open_row.ensures
-    on.if1.false first.before.before.before.read-row2.ensures call.before.sub-rows2.ensures call.open-row2.ensures c.before.if2.false first.before.before.read-row3.ensures c.beaver.ensures refl
+    product_comes c.requires.0 c.args.part.now c.args.log.now c.args.at _ _ c.read_row-a.ensures c.sub_rows.ensures c.open_row-first.ensures
+    c.if-first-ne0.false c.read_row-b.ensures c.sub_rows-2.ensures c.open_row-second.ensures c.if-second-ne0.false c.read_row-third.ensures c.beaver.ensures refl
 
-pub product-spec : {M : Type 1} → statement M
-product-spec =
+pub product_spec : {M : Type 1} → statement M
+product_spec =
     tie.close
     (tie.spec (λ c κs. search rules) (λ c. search rules) (λ c κs. search rules) (λ c. search rules) (λ c κs. search rules) (λ c κs. search rules)
     (λ c κs. search rules) returns add-open-row (λ c κs. search rules) open-row-requires-2 returns-2 beaver-requires returns-3)

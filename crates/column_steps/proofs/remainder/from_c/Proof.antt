@@ -14,36 +14,25 @@ log-fits c = search rules
 part-fits : (c : tie.Start) → length c.args.part.now < 2 ^ 64
 part-fits c = search rules
 
-returns : tie.Need-returns
+returns : tie.Need-returns-then-f-ne0
 returns c =
-    let call = c.before.before in
-    let start = call.before.before.before.before.before in
-    c_refused start.requires.0 _ _ _ start.args.m start.args.opened start.args.bits.now start.requires.2 call.comparison.ensures c.if1.true
+    c_refused c.requires.0 _ _ _ c.args.m c.args.opened c.args.bits.now c.requires.2 c.comparison-f.ensures c.if-f-ne0.true
 
-past-requires : tie.Need-past-requires
+past-requires : tie.Need-past-next-requires
 past-requires c κs =
-    let on = c.before in
-    let call = on.before.before in
-    let start = call.before.before.before.before.before in
-    let S = c_standing start.requires.0 _ _ _ start.args.m start.args.opened start.args.bits.now start.requires.2 start.requires.1 in
-    next_places start.requires.0 _ _ _ _ _ S (part-fits start) (log-fits start) _ on.if1.false call.comparison.ensures.there
+    let S = c_standing c.requires.0 _ _ _ c.args.m c.args.opened c.args.bits.now c.requires.2 c.requires.1 in
+    next_places c.requires.0 _ _ _ _ _ S (part-fits c.before.before.before.before.before.before.before.before) (log-fits c.before.before.before.before.before.before.before.before) _ c.if-f-ne0.false c.comparison-f.ensures.there
 
-from-f-requires : tie.Need-from-f-requires
+from-f-requires : tie.Need-from_f-requires
 from-f-requires c κs =
-    let on = c.before.before in
-    let call = on.before.before in
-    let start = call.before.before.before.before.before in
-    let S = c_standing start.requires.0 _ _ _ start.args.m start.args.opened start.args.bits.now start.requires.2 start.requires.1 in
-    let x = call.before.public-numbers.ensures in
-    (start.requires.0, rw (c.past.ensures, x) (standing_past _ _ S (call.comparison.ensures.there on.if1.false)), rw x start.requires.2)
+    let S = c_standing c.requires.0 _ _ _ c.args.m c.args.opened c.args.bits.now c.requires.2 c.requires.1 in
+    let x = c.public_numbers-x.ensures in
+    (c.requires.0, rw (c.past-next.ensures, x) (standing_past _ _ S (c.comparison-f.ensures.there c.if-f-ne0.false)), rw x c.requires.2)
 
-returns-2 : tie.Need-returns-2
+returns-2 : tie.Need-returns
 returns-2 c =
-    let on = c.before.before.before in
-    let call = on.before.before in
-    let start = call.before.before.before.before.before in
-    c_comes start.requires.0 _ _ _ start.args.m start.args.opened start.args.bits.now start.requires.2 call.before.public-numbers.ensures call.comparison.ensures on.if1.false c.before.past.ensures c.from-f.ensures
+    c_comes c.requires.0 _ _ _ c.args.m c.args.opened c.args.bits.now c.requires.2 c.public_numbers-x.ensures c.comparison-f.ensures c.if-f-ne0.false c.past-next.ensures c.from_f.ensures
 
-pub from-c-spec : {M : Type 1} → statement M
-from-c-spec =
+pub from_c_spec : {M : Type 1} → statement M
+from_c_spec =
     tie.close (tie.spec (λ c κs. search rules) (λ c κs. search rules) returns (λ c. search rules) past-requires from-f-requires returns-2)

@@ -16,34 +16,23 @@ log-fits c = search rules
 part-fits : (c : tie.Start) → length c.args.part.now < 2 ^ 64
 part-fits c = search rules
 
-returns : tie.Need-returns
+returns : tie.Need-returns-then-opened-ne0
 returns c =
-    let call = c.before.before in
-    let start = call.before.before.before.before.before.before in
-    mask_refused start.requires.0 _ _ _ start.args.m start.args.x.shares start.args.bits.now start.requires.3 call.before.before.spelled-row.ensures call.before.add-rows.ensures call.open_row.ensures c.if1.true refl
+    mask_refused c.requires.0 _ _ _ c.args.m c.args.x.shares c.args.bits.now c.requires.3 c.spelled_row-r.ensures c.add_rows-masked.ensures c.open_row-opened.ensures c.if-opened-ne0.true refl
 
-past-mask-requires : tie.Need-past-mask-requires
+past-mask-requires : tie.Need-past_mask-next-requires
 past-mask-requires c κs =
-    let on = c in
-    let call = on.before.before in
-    let start = call.before.before.before.before.before.before in
-    (omega (arith, start.requires.1.masks, part-fits start), counts_on start.args.log.now (start.args.at.opening + 1) start.requires.0 (call.open_row.ensures.there on.if1.false) (log-fits start))
+    (omega (arith, c.requires.1.masks, part-fits c.before.before.before.before.before.before.before.before.before.before), counts_on c.args.log.now (c.args.at.opening + 1) c.requires.0 (c.open_row-opened.ensures.there c.if-opened-ne0.false) (log-fits c.before.before.before.before.before.before.before.before.before.before))
 
-from-c-requires : tie.Need-from-c-requires
+from-c-requires : tie.Need-from_c-requires
 from-c-requires c κs =
-    let on = c.before in
-    let call = on.before.before in
-    let start = call.before.before.before.before.before.before in
-    let S = mask_standing start.requires.0 _ _ _ start.args.m start.args.x.shares start.args.bits.now start.requires.3 call.before.before.spelled-row.ensures call.before.add-rows.ensures call.open_row.ensures start.requires.1 on.if1.false in
-    (start.requires.0, rw c.past-mask.ensures S, start.requires.2, call.open_row.ensures.below)
+    let S = mask_standing c.requires.0 _ _ _ c.args.m c.args.x.shares c.args.bits.now c.requires.3 c.spelled_row-r.ensures c.add_rows-masked.ensures c.open_row-opened.ensures c.requires.1 c.if-opened-ne0.false in
+    (c.requires.0, rw c.past_mask-next.ensures S, c.requires.2, c.open_row-opened.ensures.below)
 
-returns-2 : tie.Need-returns-2
+returns-2 : tie.Need-returns
 returns-2 c =
-    let on = c.before.before in
-    let call = on.before.before in
-    let start = call.before.before.before.before.before.before in
-    mask_comes start.requires.0 _ _ _ start.args.m start.args.x.shares start.args.bits.now start.requires.3 call.before.before.spelled-row.ensures call.before.add-rows.ensures call.open_row.ensures on.if1.false c.before.past-mask.ensures c.from-c.ensures
+    mask_comes c.requires.0 _ _ _ c.args.m c.args.x.shares c.args.bits.now c.requires.3 c.spelled_row-r.ensures c.add_rows-masked.ensures c.open_row-opened.ensures c.if-opened-ne0.false c.past_mask-next.ensures c.from_c.ensures
 
-pub from-mask-spec : {M : Type 1} → statement M
-from-mask-spec =
+pub from_mask_spec : {M : Type 1} → statement M
+from_mask_spec =
     tie.close (tie.spec (λ c κs. search rules) (λ c κs. search rules) (λ c κs. search rules) returns past-mask-requires from-c-requires returns-2)

@@ -14,32 +14,21 @@ log-fits c = search rules
 part-fits : (c : tie.Start) → length c.args.part.now < 2 ^ 64
 part-fits c = search rules
 
-returns : tie.Need-returns
+returns : tie.Need-returns-then-u1-ne0
 returns c =
-    let call = c.before.before in
-    let start = call.before.before.before.before in
-    u0_refused start.requires.0 _ _ _ start.args.x start.args.bits.now _ start.args.u0.shares call.comparison.ensures c.if1.true
+    u0_refused c.requires.0 _ _ _ c.args.x c.args.bits.now _ c.args.u0.shares c.comparison-u1.ensures c.if-u1-ne0.true
 
-past-requires : tie.Need-past-requires
+past-requires : tie.Need-past-next-requires
 past-requires c κs =
-    let on = c.before in
-    let call = on.before.before in
-    let start = call.before.before.before.before in
-    next_places start.requires.0 _ _ _ _ _ start.requires.1 (part-fits start) (log-fits start) _ on.if1.false call.comparison.ensures.there
+    next_places c.requires.0 _ _ _ _ _ c.requires.1 (part-fits c.before.before.before.before.before.before.before) (log-fits c.before.before.before.before.before.before.before) _ c.if-u1-ne0.false c.comparison-u1.ensures.there
 
-from-u1-requires : tie.Need-from-u1-requires
+from-u1-requires : tie.Need-from_u1-requires
 from-u1-requires c κs =
-    let on = c.before.before in
-    let call = on.before.before in
-    let start = call.before.before.before.before in
-    (start.requires.0, rw c.past.ensures (standing_past _ _ start.requires.1 (call.comparison.ensures.there on.if1.false)), start.requires.2)
+    (c.requires.0, rw c.past-next.ensures (standing_past _ _ c.requires.1 (c.comparison-u1.ensures.there c.if-u1-ne0.false)), c.requires.2)
 
-returns-2 : tie.Need-returns-2
+returns-2 : tie.Need-returns
 returns-2 c =
-    let on = c.before.before.before in
-    let call = on.before.before in
-    let start = call.before.before.before.before in
-    u0_comes start.requires.0 _ _ _ start.args.x start.args.bits.now _ start.args.u0.shares call.comparison.ensures on.if1.false c.before.past.ensures c.from-u1.ensures
+    u0_comes c.requires.0 _ _ _ c.args.x c.args.bits.now _ c.args.u0.shares c.comparison-u1.ensures c.if-u1-ne0.false c.past-next.ensures c.from_u1.ensures
 
-pub from-u0-spec : {M : Type 1} → statement M
-from-u0-spec = tie.close (tie.spec (λ c κs. search rules) returns (λ c. search rules) past-requires from-u1-requires returns-2)
+pub from_u0_spec : {M : Type 1} → statement M
+from_u0_spec = tie.close (tie.spec (λ c κs. search rules) returns (λ c. search rules) past-requires from-u1-requires returns-2)

@@ -7,19 +7,14 @@ use Rattle.column_steps.proofs.Remainders.{u1_refused, u1_comes}
 use Rattle.column_steps.proofs.remainder.from_u1.Statement.{statement}
 use Rattle.column_steps.proofs.remainder.from_u1.Tie as tie
 
-returns : tie.Need-returns
+returns : tie.Need-returns-then-g-ne0
 returns c =
-    let call = c.before.before in
-    let start = call.before.before.before.before.before in
-    u1_refused start.requires.0 _ _ _ start.args.x (sevens start.args.x.m start.args.bits.now) _ _ _ call.before.sub-rows.ensures call.product.ensures c.if1.true
+    u1_refused c.requires.0 _ _ _ c.args.x (sevens c.args.x.m c.args.bits.now) _ _ _ c.sub_rows-difference.ensures c.product-g.ensures c.if-g-ne0.true
 
-returns-2 : tie.Need-returns-2
+returns-2 : tie.Need-returns
 returns-2 c =
-    let on = c.before.before in
-    let call = on.before.before in
-    let start = call.before.before.before.before.before in
-    u1_comes start.requires.0 _ _ _ start.args.x (sevens start.args.x.m start.args.bits.now) _ _ _ call.before.sub-rows.ensures call.product.ensures on.if1.false c.before.add-rows.ensures c.unmasked-row.ensures refl
+    u1_comes c.requires.0 _ _ _ c.args.x (sevens c.args.x.m c.args.bits.now) _ _ _ c.sub_rows-difference.ensures c.product-g.ensures c.if-g-ne0.false c.add_rows-u.ensures c.unmasked_row.ensures refl
 
-pub from-u1-spec : {M : Type 1} → statement M
-from-u1-spec =
+pub from_u1_spec : {M : Type 1} → statement M
+from_u1_spec =
     tie.close (tie.spec (λ c κs. search rules) (λ c κs. search rules) returns (λ c κs. search rules) (λ c κs. search rules) returns-2)

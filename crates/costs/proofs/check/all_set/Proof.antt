@@ -10,27 +10,27 @@ use Rattle.costs.proofs.Marks.{rest, set_start, set_more, set_not, set_end}
 use Rattle.costs.proofs.check.all_set.Statement.{statement}
 use Rattle.costs.proofs.check.all_set.Tie as tie
 
-abbrev invariant-loop : tie.invariant-loop
+abbrev invariant-loop : tie.invariant-loop-i
 invariant-loop b w marks i₀ i = (i ≤ w) × (all_set marks (rest b w i) ≡ all_set marks (from b w))
 
-abbrev decreases-loop : tie.decreases-loop
+abbrev decreases-loop : tie.decreases-loop-i
 decreases-loop b w marks i₀ i = w - i
 
-loop-again : tie.Need-loop-preserved invariant-loop decreases-loop
+loop-again : tie.Need-loop-i-preserved invariant-loop decreases-loop
 loop-again c =
-    let l = c.before.before.loop in
-    (omega arith, set_more _ _ _ l.i (omega arith) c.if1.true ∙ l.invariant.1)
+    let l = c.loop-i in
+    (omega arith, set_more _ _ _ l.i (omega arith) c.if-marks-b.true ∙ l.invariant.1)
 
-returns : tie.Need-returns invariant-loop decreases-loop
+returns : tie.Need-returns-else-marks-b invariant-loop decreases-loop
 returns c =
-    let l = c.before.before.loop in
-    set_not _ _ _ l.i (omega arith) c.if1.false ∙ l.invariant.1
+    let l = c.loop-i in
+    set_not _ _ _ l.i (omega arith) c.if-marks-b.false ∙ l.invariant.1
 
-returns-2 : tie.Need-returns-2 invariant-loop decreases-loop
-returns-2 c = set_end _ _ _ c.before.loop.i (omega arith) ∙ c.before.loop.invariant.1
+returns-2 : tie.Need-returns invariant-loop decreases-loop
+returns-2 c = set_end _ _ _ c.loop-i.i (omega arith) ∙ c.loop-i.invariant.1
 
-pub all-set-spec : {M : Type 1} → statement M
-all-set-spec =
+pub all_set_spec : {M : Type 1} → statement M
+all_set_spec =
     tie.close
     (tie.spec invariant-loop decreases-loop (λ c. (omega arith, set_start _ _ _)) (λ c. search rules) (λ c. search rules) (λ c. search rules) (λ c. search rules) loop-again
     returns returns-2)

@@ -9,10 +9,9 @@ use Rattle.costs.proofs.check.check.Tie as tie
 
 returns : tie.Need-returns
 returns c u U =
-    let s = c.before.before.before.before.before.before in
-    c.first-missing.ensures
-    ∙ rw (c.before.before.both.ensures, c.before.before.before.before.All-set.ensures, c.before.before.before.all-set2.ensures, c.before.left.ensures, ← set_append)
-    (missing_is U s.args.spent s.args.need s.requires.within)
+    c.first_missing.ensures
+    ∙ rw (c.both-set.ensures, c.all_set-first.ensures, c.all_set-second.ensures, c.left-left.ensures, ← set_append)
+    (missing_is U c.args.spent c.args.need c.requires.within)
 
-pub check-spec : {M : Type 1} → statement M
-check-spec = tie.close (tie.spec (λ c κs. search rules) (λ c κs. search rules) (λ c κs. search rules) (λ c κs. search rules) (λ c κs. search rules) returns)
+pub check_spec : {M : Type 1} → statement M
+check_spec = tie.close (tie.spec (λ c κs. search rules) (λ c κs. search rules) (λ c κs. search rules) (λ c κs. search rules) (λ c κs. search rules) returns)

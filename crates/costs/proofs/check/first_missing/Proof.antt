@@ -10,7 +10,7 @@ returns : tie.Need-returns
 unfolding missing first_failed
 returns c = cc
 
-pub first-missing-spec : {M : Type 1} → statement M
-first-missing-spec =
+pub first_missing_spec : {M : Type 1} → statement M
+first_missing_spec =
     tie.close
     (tie.spec (λ c κs. search rules) (λ c κs. search rules) (λ c κs. search rules) (λ c κs. search rules) (λ c κs. search rules) (λ c κs. search rules) returns)

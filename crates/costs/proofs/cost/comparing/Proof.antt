@@ -9,7 +9,7 @@ use Rattle.costs.proofs.cost.comparing.Tie as tie
 
 returns : tie.Need-returns
 unfolding from
-returns c = record { is = rw (append-nil, c.of-triples.ensures); first = omega arith; second = omega arith; target = omega arith }
+returns c = record { is = rw (append-nil, c.of_triples.ensures); first = omega arith; second = omega arith; target = omega arith }
 
-pub comparing-spec : {M : Type 1} → statement M
-comparing-spec = tie.close (tie.spec (λ c. search rules) (λ c κs. search rules) returns)
+pub comparing_spec : {M : Type 1} → statement M
+comparing_spec = tie.close (tie.spec (λ c. search rules) (λ c κs. search rules) returns)

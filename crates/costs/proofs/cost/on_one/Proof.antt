@@ -10,5 +10,5 @@ returns : tie.Need-returns
 unfolding from
 returns c = record { is = refl; first = omega arith; second = omega arith; target = omega arith }
 
-pub on-one-spec : {M : Type 1} → statement M
-on-one-spec = tie.close (tie.spec returns)
+pub on_one_spec : {M : Type 1} → statement M
+on_one_spec = tie.close (tie.spec returns)

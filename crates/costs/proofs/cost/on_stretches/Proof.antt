@@ -10,5 +10,5 @@ returns : tie.Need-returns
 unfolding from
 returns c = record { is = rw append-nil; first = omega arith; second = omega arith; target = omega arith }
 
-pub on-stretches-spec : {M : Type 1} → statement M
-on-stretches-spec = tie.close (tie.spec returns)
+pub on_stretches_spec : {M : Type 1} → statement M
+on_stretches_spec = tie.close (tie.spec returns)

@@ -10,5 +10,5 @@ returns : tie.Need-returns
 unfolding from
 returns c = record { is = refl; first = omega arith; second = omega arith; target = omega arith }
 
-pub on-two-spec : {M : Type 1} → statement M
-on-two-spec = tie.close (tie.spec returns)
+pub on_two_spec : {M : Type 1} → statement M
+on_two_spec = tie.close (tie.spec returns)

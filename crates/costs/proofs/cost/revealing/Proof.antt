@@ -8,7 +8,7 @@ use Rattle.costs.proofs.cost.revealing.Tie as tie
 
 returns : tie.Need-returns
 unfolding from
-returns c = record { is = rw c.one-revealed.ensures; first = omega arith; second = omega arith; target = omega arith }
+returns c = record { is = rw c.one_revealed.ensures; first = omega arith; second = omega arith; target = omega arith }
 
-pub revealing-spec : {M : Type 1} → statement M
-revealing-spec = tie.close (tie.spec (λ c κs. search rules) returns)
+pub revealing_spec : {M : Type 1} → statement M
+revealing_spec = tie.close (tie.spec (λ c κs. search rules) returns)

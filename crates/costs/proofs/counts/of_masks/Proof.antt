@@ -24,14 +24,14 @@ times-all : {h n : ℕ} {one r : Counts} → one ≡ of_mask n
     → r ≡ record { inputs = 0; masks = h; triples = h * one.triples; openings = h * one.openings; revealed = 0 } → r ≡ of_masks h n
 times-all e q = q ∙ rw e
 
-mul-made : tie.Need-overflow-mul-made
-mul-made c = let p = c.before.before.requires in record { fits = triples_fit p.0 p.1 p.3 c.before.of_mask.ensures }
+mul-made : tie.Need-overflow_mul-h
+mul-made c = let p = c.requires in record { fits = triples_fit p.0 p.1 p.3 c.of_mask-one.ensures }
 
-mul-made-2 : tie.Need-overflow-mul-made-2
-mul-made-2 c = let p = c.before.before.before.requires in record { fits = openings-fit p.0 p.1 p.3 c.before.before.of_mask.ensures }
+mul-made-2 : tie.Need-overflow_mul-h-2
+mul-made-2 c = let p = c.requires in record { fits = openings-fit p.0 p.1 p.3 c.of_mask-one.ensures }
 
 returns : tie.Need-returns
-returns c = times-all c.before.before.before.of_mask.ensures c.made.ensures
+returns c = times-all c.of_mask-one.ensures c.made.ensures
 
-pub of-masks-spec : {M : Type 1} → statement M
-of-masks-spec = tie.close (tie.spec (λ c κs. search rules) mul-made mul-made-2 (λ c κs. search rules) returns)
+pub of_masks_spec : {M : Type 1} → statement M
+of_masks_spec = tie.close (tie.spec (λ c κs. search rules) mul-made mul-made-2 (λ c κs. search rules) returns)

@@ -10,19 +10,19 @@ use Rattle.costs.proofs.Marks.{rest, mark_start, mark_more, mark_end}
 use Rattle.costs.proofs.spent.mark.Statement.{statement}
 use Rattle.costs.proofs.spent.mark.Tie as tie
 
-abbrev invariant-loop : tie.invariant-loop
+abbrev invariant-loop : tie.invariant-loop-i
 invariant-loop d w after₀ i₀ after i = (i ≤ w) × (marked after (rest d w i) ≡ marked after₀ (from d w))
 
-abbrev decreases-loop : tie.decreases-loop
+abbrev decreases-loop : tie.decreases-loop-i
 decreases-loop d w after₀ i₀ after i = w - i
 
-loop-again : tie.Need-loop-preserved invariant-loop decreases-loop
+loop-again : tie.Need-loop-i-preserved invariant-loop decreases-loop
 loop-again c =
-    let l = c.before.loop in
+    let l = c.loop-i in
     (omega arith, mark_more _ _ _ l.i (omega arith) ∙ l.invariant.1)
 
 returns : tie.Need-returns invariant-loop decreases-loop
-returns c = mark_end _ _ _ c.before.loop.i (omega arith) ∙ c.before.loop.invariant.1
+returns c = mark_end _ _ _ c.loop-i.i (omega arith) ∙ c.loop-i.invariant.1
 
 pub mark_spec : {M : Type 1} → statement M
 mark_spec =

@@ -9,5 +9,5 @@ returns : tie.Need-returns
 unfolding nothing_spent
 returns c = rw c.none.ensures
 
-pub nothing-spec : {M : Type 1} → statement M
-nothing-spec = tie.close (tie.spec (λ c κs. search rules) returns)
+pub nothing_spec : {M : Type 1} → statement M
+nothing_spec = tie.close (tie.spec (λ c κs. search rules) returns)

@@ -7,7 +7,7 @@ use Rattle.costs.proofs.spent.pay.Tie as tie
 
 returns : tie.Need-returns
 unfolding pay
-returns c = rw (c.before.before.added.ensures, c.mark.ensures)
+returns c = rw (c.added-counts.ensures, c.mark-marks.ensures)
 
-pub pay-spec : {M : Type 1} → statement M
-pay-spec = tie.close (tie.spec (λ c κs. search rules) (λ c κs. search rules) returns)
+pub pay_spec : {M : Type 1} → statement M
+pay_spec = tie.close (tie.spec (λ c κs. search rules) (λ c κs. search rules) returns)

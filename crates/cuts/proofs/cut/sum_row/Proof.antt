@@ -8,11 +8,10 @@ use Rattle.cuts.proofs.cut.sum_row.Tie as tie
 
 returns : tie.Need-returns
 returns c =
-    let s = c.before.before in
-    let e = power_is s.args.m s.requires.2 c.before.power-of-two.ensures.0 in
-    rw e at c.add-public.ensures
+    let e = power_is c.args.m c.requires.2 c.power_of_two-power.ensures.0 in
+    rw e at c.add_public.ensures
 
-pub sum-row-spec : {M : Type 1} → statement M
-sum-row-spec =
+pub sum_row_spec : {M : Type 1} → statement M
+sum_row_spec =
     tie.close
-    (tie.spec (λ c κs. search rules) (λ c. omega (arith, power_above _ c.before.requires.2 c.power-of-two.ensures.0)) (λ c κs. search rules) returns)
+    (tie.spec (λ c κs. search rules) (λ c. omega (arith, power_above _ c.requires.2 c.power_of_two-power.ensures.0)) (λ c κs. search rules) returns)

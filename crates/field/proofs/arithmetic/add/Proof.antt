@@ -5,10 +5,10 @@ use Rattle.field.proofs.Residues.{add_low, add_high}
 use Rattle.field.proofs.arithmetic.add.Statement.{statement}
 use Rattle.field.proofs.arithmetic.add.Tie as tie
 
-returns : tie.Need-returns
+returns : tie.Need-returns-then-sum-p
 returns c = search (rules, add_low)
 
-returns-2 : tie.Need-returns-2
+returns-2 : tie.Need-returns-else-sum-p
 returns-2 c = search (rules, add_high)
 
 pub add_spec : {M : Type 1} → statement M

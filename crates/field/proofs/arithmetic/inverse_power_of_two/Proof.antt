@@ -10,24 +10,24 @@ use Rattle.model.specs.Fields.{inverse_power_of_2}
 use Rattle.field.proofs.arithmetic.inverse_power_of_two.Statement.{statement}
 use Rattle.field.proofs.arithmetic.inverse_power_of_two.Tie as tie
 
-abbrev invariant-loop : tie.invariant-loop
+abbrev invariant-loop : tie.invariant-loop-i
 invariant-loop p m half r₀ i₀ r i = (i ≤ m) × ((r ≡ inverse_power_of_2 p i) × (r < p))
 
-abbrev decreases-loop : tie.decreases-loop
+abbrev decreases-loop : tie.decreases-loop-i
 decreases-loop p m half r₀ i₀ r i = m - i
 
-loop-holds : tie.Need-loop-init invariant-loop decreases-loop
+loop-holds : tie.Need-loop-i-init invariant-loop decreases-loop
 unfolding inverse_power_of_2
 loop-holds c = (omega arith, (refl, omega arith))
 
-loop-again : tie.Need-loop-preserved invariant-loop decreases-loop
+loop-again : tie.Need-loop-i-preserved invariant-loop decreases-loop
 unfolding inverse_power_of_2
-loop-again c = (omega arith, (rw (add-one, ← c.before.before.loop.invariant.1.0) (search mul_turned), omega arith))
+loop-again c = (omega arith, (rw (add-one, ← c.before.before.loop-i.invariant.1.0) (search mul_turned), omega arith))
 
 returns : tie.Need-returns invariant-loop decreases-loop
-returns c = (c.before.loop.invariant.1.0 ∙ ap (inverse_power_of_2 _) (omega arith), omega arith)
+returns c = (c.before.loop-i.invariant.1.0 ∙ ap (inverse_power_of_2 _) (omega arith), omega arith)
 
-pub inverse-power-of-two-spec : {M : Type 1} → statement M
-inverse-power-of-two-spec =
+pub inverse_power_of_two_spec : {M : Type 1} → statement M
+inverse_power_of_two_spec =
     tie.close
     (tie.spec invariant-loop decreases-loop (λ c. search rules) loop-holds (λ c κs. search rules) (λ c. search rules) (λ c. search rules) loop-again returns)

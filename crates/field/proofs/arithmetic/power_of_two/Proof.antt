@@ -11,5 +11,5 @@ returns : tie.Need-returns
 unfolding power_of_2
 returns c = (rw (c.reduce.ensures.0, shift_one c.before.args.m 32 (omega arith)), c.reduce.ensures.1)
 
-pub power-of-two-spec : {M : Type 1} → statement M
-power-of-two-spec = tie.close (tie.spec (λ c. search rules) (λ c κs. search rules) returns)
+pub power_of_two_spec : {M : Type 1} → statement M
+power_of_two_spec = tie.close (tie.spec (λ c. search rules) (λ c κs. search rules) returns)

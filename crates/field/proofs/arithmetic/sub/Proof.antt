@@ -5,10 +5,10 @@ use Rattle.field.proofs.Residues.{sub_low, sub_high}
 use Rattle.field.proofs.arithmetic.sub.Statement.{statement}
 use Rattle.field.proofs.arithmetic.sub.Tie as tie
 
-returns : tie.Need-returns
+returns : tie.Need-returns-then-right-left
 returns c = search (rules, sub_low)
 
-returns-2 : tie.Need-returns-2
+returns-2 : tie.Need-returns-else-right-left
 returns-2 c = search (rules, sub_high)
 
 pub sub_spec : {M : Type 1} → statement M

@@ -22,17 +22,17 @@ module _ (p : ℕ) (a : ℤ) {m : ℕ} {s : Bool} (f : SFits w64 a) (h : mag a <
   code-down : s ≡ false → p - 1 - m ≡ code p a
   code-down t = rw (code_small p a h, ← held_is f, ← em, ← es, t)
 
-cast-m : tie.Need-overflow-cast-m
+cast-m : tie.Need-overflow_cast-m
 cast-m c = omega (arith, ap mag (held_is c.before.ranges.a))
 
-sub-result-2 : tie.Need-overflow-sub-result-2
+sub-result-2 : tie.Need-overflow_sub-result-else-non_negative
 sub-result-2 c = omega (arith, ap mag (held_is c.before.before.before.ranges.a))
 
-returns : tie.Need-returns
+returns : tie.Need-returns-then-non_negative
 returns c = search code_up
 
-returns-2 : tie.Need-returns-2
+returns-2 : tie.Need-returns-else-non_negative
 returns-2 c = search code-down
 
-pub code-spec : {M : Type 1} → statement M
-code-spec = tie.close (tie.spec (λ c κs. search rules) cast-m (λ c κs. search rules) (λ c. search rules) sub-result-2 returns returns-2)
+pub code_spec : {M : Type 1} → statement M
+code_spec = tie.close (tie.spec (λ c κs. search rules) cast-m (λ c κs. search rules) (λ c. search rules) sub-result-2 returns returns-2)

@@ -12,5 +12,5 @@ use Rattle.field.proofs.coding.in_range.Tie as tie
 returns : tie.Need-returns
 returns c = rw (c.magnitude.ensures.0, held_is c.before.ranges.a, shift_one (c.before.args.k - 1) 64 (omega arith), in_range_lem)
 
-pub in-range-spec : {M : Type 1} → statement M
-in-range-spec = tie.close (tie.spec (λ c. search rules) (λ c. search rules) (λ c. search rules) (λ c κs. search rules) returns)
+pub in_range_spec : {M : Type 1} → statement M
+in_range_spec = tie.close (tie.spec (λ c. search rules) (λ c. search rules) (λ c. search rules) (λ c κs. search rules) returns)

@@ -7,5 +7,5 @@ use Rattle.field.proofs.coding.non_negative.Tie as tie
 returns : tie.Need-returns
 returns c = sign_is c.ranges.a
 
-pub non-negative-spec : {M : Type 1} → statement M
-non-negative-spec = tie.close (tie.spec returns)
+pub non_negative_spec : {M : Type 1} → statement M
+non_negative_spec = tie.close (tie.spec returns)

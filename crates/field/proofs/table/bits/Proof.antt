@@ -11,5 +11,5 @@ returns : tie.Need-returns
 unfolding entry_test bits
 returns c = search (rules, entry_at (λ (f : ℕ). 3 * f + 1) bits)
 
-pub bits-spec : {M : Type 1} → statement M
-bits-spec = tie.close (tie.spec (λ c. search rules) (λ c. search rules) (λ c. search rules) (λ c. search rules) returns)
+pub bits_spec : {M : Type 1} → statement M
+bits_spec = tie.close (tie.spec (λ c. search rules) (λ c. search rules) (λ c. search rules) (λ c. search rules) returns)

@@ -6,6 +6,6 @@ use Rattle.model.proofs.Trying.{trying}
 use Rattle.field.proofs.table.field_number.Statement.{statement}
 use Rattle.field.proofs.table.field_number.Tie as tie
 
-pub field-number-spec : {M : Type 1} → statement M
+pub field_number_spec : {M : Type 1} → statement M
 unfolding field_tests
-field-number-spec = tie.close (tie.spec (λ c κs. search rules) (λ c. search (rules, trying)) (λ c. search (rules, trying)))
+field_number_spec = tie.close (tie.spec (λ c κs. search rules) (λ c. search (rules, trying)) (λ c. search (rules, trying)))

@@ -17,5 +17,5 @@ unfolding in_use
 below-4 f true e = sym (is_true (in_use f) (every_at 4 in_use tt f (ltb-true f 4 e)))
 below-4 f false e = sym (is_false (in_use f) (λ t. omega (arith, ltb-false f 4 e, below_four f t)))
 
-pub in-use-spec : {M : Type 1} → statement M
-in-use-spec = tie.close (tie.spec (λ c. below-4 _ _ refl))
+pub in_use_spec : {M : Type 1} → statement M
+in_use_spec = tie.close (tie.spec (λ c. below-4 _ _ refl))

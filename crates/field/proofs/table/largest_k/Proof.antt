@@ -11,5 +11,5 @@ returns : tie.Need-returns
 unfolding entry_test largest_k
 returns c = search (rules, entry_at (λ (f : ℕ). 3 * f + 2) largest_k)
 
-pub largest-k-spec : {M : Type 1} → statement M
-largest-k-spec = tie.close (tie.spec (λ c. search rules) (λ c. search rules) (λ c. search rules) (λ c. search rules) returns)
+pub largest_k_spec : {M : Type 1} → statement M
+largest_k_spec = tie.close (tie.spec (λ c. search rules) (λ c. search rules) (λ c. search rules) (λ c. search rules) returns)

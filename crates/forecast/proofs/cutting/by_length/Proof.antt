@@ -5,5 +5,5 @@ use Rattle.forecast.proofs.Taking.{whole_sheet, other_input}
 use Rattle.forecast.proofs.cutting.by_length.Statement.{statement}
 use Rattle.forecast.proofs.cutting.by_length.Tie as tie
 
-pub by-length-spec : {M : Type 1} → statement M
-by-length-spec = tie.close (tie.spec (λ c κs. search rules) (λ c. search (rules, whole_sheet)) (λ c. search (rules, other_input)))
+pub by_length_spec : {M : Type 1} → statement M
+by_length_spec = tie.close (tie.spec (λ c κs. search rules) (λ c. search (rules, whole_sheet)) (λ c. search (rules, other_input)))

@@ -13,7 +13,7 @@ invariant-loop f script at₀ at = Unit {0}
 abbrev decreases-loop : tie.decreases-loop
 decreases-loop f script at₀ at = length script - at
 
-pub stops-at-spec : {M : Type 1} → statement M
-stops-at-spec =
+pub stops_at_spec : {M : Type 1} → statement M
+stops_at_spec =
     tie.close
     (tie.spec invariant-loop decreases-loop (λ c. tt) (λ c κs. search rules) (λ c. search rules) (λ c. search rules) (λ c. search rules) (λ c. search (rules, closer)) (λ c. tt))

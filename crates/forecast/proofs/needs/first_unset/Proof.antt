@@ -30,8 +30,8 @@ returns c =
 returns-2 : tie.Need-returns-2 invariant-loop decreases-loop
 returns-2 c = unset_end _ _ _ c.before.loop.i (omega arith) ∙ c.before.loop.invariant.1
 
-pub first-unset-spec : {M : Type 1} → statement M
-first-unset-spec =
+pub first_unset_spec : {M : Type 1} → statement M
+first_unset_spec =
     tie.close
     (tie.spec invariant-loop decreases-loop (λ c. (omega arith, unset_start _ _ _)) (λ c. search rules) (λ c. search rules) (λ c. search rules) (λ c. search rules) loop-again
     (λ c. search rules) returns returns-2)

@@ -8,8 +8,8 @@ use Rattle.forecast.proofs.needs.missing.Tie as tie
 cost-of-requires : tie.Need-cost-of-requires
 cost-of-requires c κs = search (rules, in_range_lem)
 
-pub missing-spec : {M : Type 1} → statement M
-missing-spec =
+pub missing_spec : {M : Type 1} → statement M
+missing_spec =
     tie.close
     (tie.spec (λ c κs. search rules) (λ c. search rules) (λ c. search rules) (λ c. search rules) cost-of-requires (λ c κs. search rules) (λ c κs. search rules)
     (λ c κs. search rules) (λ c κs. search rules) (λ c κs. search rules) (λ c. search rules) (λ c. search rules))

@@ -5,6 +5,6 @@ use Rattle.forecast.proofs.Registers.{in_first, in_second}
 use Rattle.forecast.proofs.needs.unset_register.Statement.{statement}
 use Rattle.forecast.proofs.needs.unset_register.Tie as tie
 
-pub unset-register-spec : {M : Type 1} → statement M
-unset-register-spec =
+pub unset_register_spec : {M : Type 1} → statement M
+unset_register_spec =
     tie.close (tie.spec (λ c κs. search rules) (λ c. search (rules, in_first)) (λ c κs. search rules) (λ c. search (rules, in_second)))

@@ -10,17 +10,15 @@ use mathlib.Core.Path.{refl, ap, ◌∙◌}
 use Rattle.from_record.proofs.windows.value_at.Statement.{statement}
 use Rattle.from_record.proofs.windows.value_at.Tie as tie
 
-opened-value-requires : tie.Need-opened-value-requires
+opened-value-requires : tie.Need-opened_value-requires
 opened-value-requires c κs =
-    let s = c.before in
-    (fits _ s.requires.0 s.requires.1 refl refl refl refl (s.requires.2.worked s.args.z s.requires.3 _), s.requires.4)
+    (fits _ c.requires.0 c.requires.1 refl refl refl refl (c.requires.2.worked c.args.z c.requires.3 _), c.requires.4)
 
 returns : tie.Need-returns
 unfolding value
 returns c =
-    let s = c.before.before in
-    let set = s.requires.2.sets s.args.z s.requires.3 _ in
-    (c.opened-value.ensures.0 ∙ ap (λ (b : ℕ). value_from s.args.p (openers s.args.n s.args.t b) s.args.row.shares) set, c.opened-value.ensures.1)
+    let set = c.requires.2.sets c.args.z c.requires.3 _ in
+    (c.opened_value.ensures.0 ∙ ap (λ (b : ℕ). value_from c.args.p (openers c.args.n c.args.t b) c.args.row.shares) set, c.opened_value.ensures.1)
 
-pub value-at-spec : {M : Type 1} → statement M
-value-at-spec = tie.close (tie.spec (λ c. search rules) (λ c. search rules) opened-value-requires returns)
+pub value_at_spec : {M : Type 1} → statement M
+value_at_spec = tie.close (tie.spec (λ c. search rules) (λ c. search rules) opened-value-requires returns)

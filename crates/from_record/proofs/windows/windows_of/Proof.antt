@@ -9,41 +9,38 @@ use native.Mathlib.Omega.{arith}
 use Rattle.from_record.proofs.windows.windows_of.Statement.{statement}
 use Rattle.from_record.proofs.windows.windows_of.Tie as tie
 
-abbrev invariant-loop : tie.invariant-loop
+abbrev invariant-loop : tie.invariant-loop-z
 invariant-loop field n t present openings₀ z₀ openings z = Windowing (modulus field) n t present z openings
 
-abbrev decreases-loop : tie.decreases-loop
+abbrev decreases-loop : tie.decreases-loop-z
 decreases-loop field n t present openings₀ z₀ openings z = 6 - z
 
-loop-holds : tie.Need-loop-init invariant-loop decreases-loop
+loop-holds : tie.Need-loop-z-init invariant-loop decreases-loop
 loop-holds c = windowing_start _ _ _ _ _ refl
 
-opening-of-requires : tie.Need-opening-of-requires invariant-loop decreases-loop
+opening-of-requires : tie.Need-opening_of-requires invariant-loop decreases-loop
 opening-of-requires c κs =
-    let s = c.before.before.before.before.before.before in
-    (s.requires.0, s.requires.1, is_permitted c.before.permitted.ensures c.if1.true)
+    (c.requires.0, c.requires.1, is_permitted c.permitted.ensures c.if-permitted.true)
 
-loop-again : tie.Need-loop-preserved invariant-loop decreases-loop
+loop-again : tie.Need-loop-z-preserved invariant-loop decreases-loop
 loop-again c =
-    let q = c.before.before in
-    let u = q.before.without-first in
-    windowing_more q.before.before.before.loop.invariant _ (omega arith)
-    (rw u.ensures at (is_permitted q.permitted.ensures c.before.if1.true)) (c.Opening-of.ensures.0 ∙ u.ensures) c.Opening-of.ensures.1
+    let u = c.without_first-set in
+    windowing_more c.loop-z.invariant _ (omega arith)
+    (rw u.ensures at (is_permitted c.permitted.ensures c.if-permitted.true)) (c.opening_of.ensures.0 ∙ u.ensures) c.opening_of.ensures.1
 
-returns : tie.Need-returns invariant-loop decreases-loop
+returns : tie.Need-returns-else-permitted invariant-loop decreases-loop
 returns c =
-    let q = c.before in
-    let s = q.before.before.before.before.before in (
+    (
       refl,
-      windowing_stop q.before.before.before.loop.invariant s.requires.1 s.requires.2
-          (rw q.before.without-first.ensures at (not_permitted q.permitted.ensures c.if1.false)),
+      windowing_stop c.loop-z.invariant c.requires.1 c.requires.2
+          (rw c.without_first-set.ensures at (not_permitted c.permitted.ensures c.if-permitted.false)),
     )
 
-returns-2 : tie.Need-returns-2 invariant-loop decreases-loop
-returns-2 c = let s = c.before.before.before in (refl, windowing_end c.before.loop.invariant s.requires.1 s.requires.2 (omega arith))
+returns-2 : tie.Need-returns invariant-loop decreases-loop
+returns-2 c = (refl, windowing_end c.loop-z.invariant c.requires.1 c.requires.2 (omega arith))
 
-pub windows-of-spec : {M : Type 1} → statement M
-windows-of-spec =
+pub windows_of_spec : {M : Type 1} → statement M
+windows_of_spec =
     tie.close
     (tie.spec invariant-loop decreases-loop (λ c κs. search rules) loop-holds (λ c κs. search rules) (λ c κs. search rules) opening-of-requires (λ c. search rules)
     (λ c. search rules) (λ c. search rules) (λ c. search rules) loop-again returns returns-2)

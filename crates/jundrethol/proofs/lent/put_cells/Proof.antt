@@ -29,8 +29,8 @@ same_length c = lending_length c.before.loop.invariant
 returns : tie.Need-returns invariant-loop decreases-loop
 returns c = lending_end c.before.loop.invariant (omega arith)
 
-pub put-cells-spec : {M : Type 1} → statement M
-put-cells-spec =
+pub put_cells_spec : {M : Type 1} → statement M
+put_cells_spec =
     tie.close
     (tie.spec invariant-loop decreases-loop (λ c κs. search rules) loop-holds (λ c. search rules) (λ c. search rules) (λ c. search rules) slice-write-part
     (λ c. search rules) (λ c. search rules) loop-again same_length returns)

@@ -6,14 +6,14 @@ use borrow.Author.Rules.{rules}
 use Rattle.local.proofs.bits.spelled_row.Statement.{statement}
 use Rattle.local.proofs.bits.spelled_row.Tie as tie
 
-abbrev invariant-loop : tie.invariant-loop
+abbrev invariant-loop : tie.invariant-loop-k
 invariant-loop setting w cells r₀ k₀ r k = Spelling (setting_of setting) w cells k r.shares
 
-abbrev decreases-loop : tie.decreases-loop
+abbrev decreases-loop : tie.decreases-loop-k
 decreases-loop setting w cells r₀ k₀ r k = k
 
-pub spelled-row-spec : {M : Type 1} → statement M
-spelled-row-spec =
+pub spelled_row_spec : {M : Type 1} → statement M
+spelled_row_spec =
     tie.close
     (tie.spec invariant-loop decreases-loop (λ c κs. search rules) (λ c. search (rules, spelling_start)) (λ c. search rules) (λ c κs. search rules) (λ c κs. search rules)
     (λ c. search rules) (λ c. search (rules, spelling_more)) (λ c. search (rules, spelling_end)))

@@ -4,10 +4,10 @@ use borrow.Author.Rules.{rules}
 use Rattle.local.proofs.comparison.first_row.Statement.{statement}
 use Rattle.local.proofs.comparison.first_row.Tie as tie
 
-pub first-row-spec : {M : Type 1} → statement M
-first-row-spec =
+pub first_row_spec : {M : Type 1} → statement M
+first_row_spec =
     tie.close
     (tie.spec
     (λ c κs. search rules)
-    (λ c. rw c.before.if1.true c.constant-row.ensures)
-    (λ c. rw c.if1.false))
+    (λ c. rw c.if-one.true c.constant_row.ensures)
+    (λ c. rw c.if-one.false))

@@ -4,7 +4,7 @@ use borrow.Author.Rules.{rules}
 use Rattle.local.proofs.comparison.next_row.Statement.{statement}
 use Rattle.local.proofs.comparison.next_row.Tie as tie
 
-pub next-row-spec : {M : Type 1} → statement M
-next-row-spec =
+pub next_row_spec : {M : Type 1} → statement M
+next_row_spec =
     tie.close
-    (tie.spec (λ c. rw c.if1.true) (λ c κs. search rules) (λ c κs. search rules) (λ c. rw c.before.before.if1.false (cc)))
+    (tie.spec (λ c. rw c.if-one.true) (λ c κs. search rules) (λ c κs. search rules) (λ c. rw c.if-one.false (cc)))

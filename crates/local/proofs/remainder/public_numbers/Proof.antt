@@ -7,10 +7,10 @@ use Rattle.local.proofs.remainder.public_numbers.Tie as tie
 
 returns : tie.Need-returns
 returns c =
-    let e = power_is _ c.before.before.requires.2 c.before.power-of-two.ensures.0 in
-    rw (c.sub.ensures.0, e)
+    let e = power_is _ c.requires.2 c.power_of_two-power.ensures.0 in
+    rw (c.sub-step.ensures.0, e)
 
-pub public-numbers-spec : {M : Type 1} → statement M
-public-numbers-spec =
+pub public_numbers_spec : {M : Type 1} → statement M
+public_numbers_spec =
     tie.close
     (tie.spec (λ c κs. search rules) (λ c. search (rules, power_above)) (λ c. search rules) (λ c. search (rules, power_above)) (λ c κs. search rules) returns)

@@ -9,11 +9,10 @@ use Rattle.local.proofs.remainder.raised_row.Tie as tie
 
 returns : tie.Need-returns
 returns c =
-    let s = c.before.before in
-    let e = power_is _ (power_below (s.args.k - 1) s.args.k (omega arith) s.requires.3) c.before.power-of-two.ensures.0 in
-    rw e at c.add-public.ensures
+    let e = power_is _ (power_below (c.args.k - 1) c.args.k (omega arith) c.requires.3) c.power_of_two-half.ensures.0 in
+    rw e at c.add_public.ensures
 
-pub raised-row-spec : {M : Type 1} → statement M
-raised-row-spec =
+pub raised_row_spec : {M : Type 1} → statement M
+raised_row_spec =
     tie.close
     (tie.spec (λ c. search rules) (λ c κs. search rules) (λ c κs. search rules) returns)

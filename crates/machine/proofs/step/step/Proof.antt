@@ -6,13 +6,11 @@ use Rattle.machine.proofs.step.step.Statement.{statement}
 use Rattle.machine.proofs.step.step.Tie as tie
 
 paid-requires : tie.Need-paid-requires
-paid-requires c κs = let same = c.before.before.before.before.perform.ensures.0 in search (rules, same)
+paid-requires c κs = let same = c.perform-done.ensures.0 in search (rules, same)
 
 returns : tie.Need-returns
 returns c =
-    let call = c.before.before.before.before.before in
-    let start = call.before.before.before.before.before.before in
-    finishes start.requires.1 call.perform.ensures.0 call.perform.ensures.1 c.paid.ensures.0 c.paid.ensures.1
+    finishes c.requires.1 c.perform-done.ensures.0 c.perform-done.ensures.1 c.paid.ensures.0 c.paid.ensures.1
 
 pub step_spec : {M : Type 1} → statement M
 step_spec = tie.close (tie.spec (λ c κs. search rules) paid-requires (λ c. search rules) (λ c. search rules) returns)

@@ -5,7 +5,7 @@ use Rattle.registers.proofs.cutting.cut_from.Statement.{statement}
 use Rattle.registers.proofs.cutting.cut_from.Tie as tie
 
 returns : tie.Need-returns
-returns c = let made = c.before.before in rw made.before.register.ensures at made.cut-row.ensures
+returns c = rw c.register.ensures at c.cut_row.ensures
 
-pub cut-from-spec : {M : Type 1} → statement M
-cut-from-spec = tie.close (tie.spec (λ c κs. search rules) (λ c κs. search rules) (λ c. search rules) returns)
+pub cut_from_spec : {M : Type 1} → statement M
+cut_from_spec = tie.close (tie.spec (λ c κs. search rules) (λ c κs. search rules) (λ c. search rules) returns)

@@ -6,9 +6,9 @@ use Rattle.registers.proofs.opening.comparison_from.Statement.{statement}
 use Rattle.registers.proofs.opening.comparison_from.Tie as tie
 
 returns : tie.Need-returns
-returns c = rw (rest_cells _ _) at c.before.before.comparison.ensures
+returns c = rw (rest_cells _ _) at c.comparison.ensures
 
-pub comparison-from-spec : {M : Type 1} → statement M
-comparison-from-spec =
+pub comparison_from_spec : {M : Type 1} → statement M
+comparison_from_spec =
     tie.close
     (tie.spec (λ c. search rules) (λ c. search rules) (λ c. search rules) (λ c. search rules) (λ c. search rules) (λ c κs. search rules) (λ c. search rules) returns)

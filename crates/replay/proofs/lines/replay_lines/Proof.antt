@@ -69,8 +69,8 @@ loop-again c =
     goes_next decode.before.loop.invariant decode.decode.ensures found.found.given.1 cost.cost-of.ensures check.check.ensures on.if1.false call.perform.ensures.0 done.if2.false
     call.perform.ensures.1 c.paid.ensures
 
-pub replay-lines-spec : {M : Type 1} → statement M
-replay-lines-spec =
+pub replay_lines_spec : {M : Type 1} → statement M
+replay_lines_spec =
     tie.close
     (tie.spec invariant-loop decreases-loop (λ c κs. search rules) (λ c κs. search rules) loop-holds (λ c κs. search rules) (λ c. search rules) (λ c. search rules)
     (λ c κs. search rules) (λ c κs. search rules) returns cost-of-requires check-requires (λ c κs. search rules) returns-2 perform-requires (λ c κs. search rules) returns-3 paid-requires loop-less loop-again)

@@ -8,5 +8,5 @@ use Rattle.replay.proofs.own.alone.Tie as tie
 returns : tie.Need-returns
 returns c = (refl, worked_alone _ c.requires)
 
-pub alone-spec : {M : Type 1} → statement M
-alone-spec = tie.close (tie.spec returns)
+pub alone_spec : {M : Type 1} → statement M
+alone_spec = tie.close (tie.spec returns)

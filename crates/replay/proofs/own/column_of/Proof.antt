@@ -11,5 +11,5 @@ alone-requires c κs = framed_modulus c.before.before.requires
 returns : tie.Need-returns
 returns c = column_for c.before.before.before.requires c.before.reader-for.ensures c.alone.ensures
 
-pub column-of-spec : {M : Type 1} → statement M
-column-of-spec = tie.close (tie.spec (λ c κs. search rules) alone-requires returns)
+pub column_of_spec : {M : Type 1} → statement M
+column_of_spec = tie.close (tie.spec (λ c κs. search rules) alone-requires returns)

@@ -26,7 +26,7 @@ loop-again c = writing_more c.before.loop.invariant (omega arith) (own_length _)
 returns : tie.Need-returns invariant-loop decreases-loop
 returns c = own_end _ c.before.loop.invariant (omega arith) (search rules)
 
-pub own-cells-spec : {M : Type 1} → statement M
-own-cells-spec =
+pub own_cells_spec : {M : Type 1} → statement M
+own_cells_spec =
     tie.close
     (tie.spec invariant-loop decreases-loop loop-holds (λ c. search rules) (λ c. search rules) (λ c. search rules) (λ c. search rules) (λ c. search rules) (λ c. search rules) (λ c. search rules) loop-again returns)

@@ -11,8 +11,8 @@ invariant-loop field values xs i₀ i = i ≤ values
 abbrev decreases-loop : tie.decreases-loop
 decreases-loop field values xs i₀ i = values - i
 
-pub revealed-spec : {M : Type 1} → statement M
-revealed-spec =
+pub revealed_spec : {M : Type 1} → statement M
+revealed_spec =
     tie.close
     (tie.spec invariant-loop decreases-loop (λ c. search rules) (λ c. search rules) (λ c. search rules) (λ c κs. search rules) (λ c. search rules) (λ c. search rules)
     (λ c. search rules) (λ c. search rules))

@@ -35,8 +35,8 @@ add_at c = omega (arith, row_in c.before.before)
 loop-again : tie.Need-loop-preserved invariant-loop decreases-loop
 loop-again c = omega (arith, row_in c.before.before)
 
-pub rows-spec : {M : Type 1} → statement M
-rows-spec =
+pub rows_spec : {M : Type 1} → statement M
+rows_spec =
     tie.close
     (tie.spec invariant-loop decreases-loop (λ c. search rules) add-list-line (λ c. search rules) (λ c. search rules) (λ c. search rules) part-list-line-end
     (λ c κs. search rules) add_at (λ c. search rules) (λ c. search rules) loop-again (λ c. search rules))

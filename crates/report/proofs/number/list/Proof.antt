@@ -12,8 +12,8 @@ invariant-loop text xs i₀ i = i ≤ length xs
 abbrev decreases-loop : tie.decreases-loop
 decreases-loop text xs i₀ i = length xs - i
 
-pub list-spec : {M : Type 1} → statement M
-list-spec =
+pub list_spec : {M : Type 1} → statement M
+list_spec =
     tie.close
     (tie.spec invariant-loop decreases-loop (λ c κs. search rules) (λ c. search rules) (λ c. search rules) (λ c. search rules) (λ c κs. search rules)
     (λ c. search rules) (λ c. search rules) (λ c. search rules) (λ c. search rules))

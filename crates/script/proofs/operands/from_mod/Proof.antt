@@ -6,10 +6,10 @@ use Rattle.script.proofs.Sizes.{says_byte, room}
 use Rattle.script.proofs.operands.from_mod.Statement.{statement}
 use Rattle.script.proofs.operands.from_mod.Tie as tie
 
-pub from-mod-spec : {M : Type 1} → statement M
-from-mod-spec =
+pub from_mod_spec : {M : Type 1} → statement M
+from_mod_spec =
     tie.close
     (tie.spec (λ c κs. search rules) (λ c κs. search rules) (λ c κs. search rules) (λ c. search rules) (λ c κs. search rules) (λ c. search rules)
     (λ c. search rules) (λ c κs. search (rules, room 10)) (λ c. search (rules, says_byte 7)) (λ c. search (rules, says_byte 8))
     (λ c. search (rules, says_byte 9)) (λ c. search (rules, says_byte 10))
-    (λ c. says_byte 11 _ _ {op = c.before.before.before.before.before.before.args.op} (omega arith) (search rules)))
+    (λ c. says_byte 11 _ _ {op = c.args.op} (omega arith) (search rules)))

@@ -6,9 +6,9 @@ use Rattle.script.proofs.Sizes.{says_byte, room}
 use Rattle.script.proofs.operands.from_reveal.Statement.{statement}
 use Rattle.script.proofs.operands.from_reveal.Tie as tie
 
-pub from-reveal-spec : {M : Type 1} → statement M
-from-reveal-spec =
+pub from_reveal_spec : {M : Type 1} → statement M
+from_reveal_spec =
     tie.close
     (tie.spec (λ c κs. search rules) (λ c κs. search rules) (λ c κs. search rules) (λ c. search rules) (λ c κs. search (rules, room 13))
     (λ c κs. search rules) (λ c. search rules) (λ c. search (rules, says_byte 12)) (λ c. search (rules, says_byte 13))
-    (λ c. says_byte 14 _ _ {op = c.before.before.before.before.before.before.args.op} (omega arith) (search rules)))
+    (λ c. says_byte 14 _ _ {op = c.args.op} (omega arith) (search rules)))

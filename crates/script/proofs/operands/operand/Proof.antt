@@ -12,7 +12,7 @@ use Rattle.script.proofs.operands.operand.Tie as tie
 past_end : (s : List ℕ) (i j : ℕ) → i ≤ length s → length s - i ≤ j → 0 ≡ get_or s (i + j) 0
 past_end s i j h k = sym (get_or-eq_default s 0 {n = i + j} (omega arith))
 
-pub operand-spec : {M : Type 1} → statement M
-operand-spec =
+pub operand_spec : {M : Type 1} → statement M
+operand_spec =
     tie.close
     (tie.spec (λ c. search rules) (λ c. search rules) (λ c. search rules) (λ c κs. search rules) (λ c. search rules) (λ c. search (rules, past_end)))

@@ -4,5 +4,5 @@ use Rattle.script.proofs.Stretching.{ends_past, ends_within}
 use Rattle.script.proofs.ranges.ends_in.Statement.{statement}
 use Rattle.script.proofs.ranges.ends_in.Tie as tie
 
-pub ends-in-spec : {M : Type 1} → statement M
-ends-in-spec = tie.close (tie.spec (λ c. search ends_past) (λ c. search ends_within))
+pub ends_in_spec : {M : Type 1} → statement M
+ends_in_spec = tie.close (tie.spec (λ c. search ends_past) (λ c. search ends_within))

@@ -13,14 +13,14 @@ use Rattle.script.proofs.ranges.in_range.Tie as tie
 by-case : (p K : ℕ) {c x : Command} {r : Bool} → c ≡ x → r ≡ in_ranges p K (meant x) → r ≡ in_ranges p K (meant c)
 by-case p K e f = rw e f
 
-pub in-range-spec : {M : Type 1} → statement M
+pub in_range_spec : {M : Type 1} → statement M
 unfolding all_pass
-in-range-spec =
+in_range_spec =
     tie.close
     (tie.spec (λ c. search rules) (λ c. search rules) (λ c κs. search rules) (λ c. search rules) (λ c κs. search rules) (λ c. search rules)
     (λ c κs. search rules) (λ c. search rules) (λ c κs. search rules) (λ c. search rules) (λ c κs. search rules) (λ c. search rules) (λ c κs. search rules)
     (λ c. search rules) (λ c κs. search rules) (λ c. search rules) (λ c κs. search rules) (λ c κs. search rules) (λ c. search rules) (λ c κs. search rules)
     (λ c. search rules) (λ c κs. search rules) (λ c. search rules) (λ c. search rules) (λ c κs. search rules) (λ c. search rules) (λ c κs. search rules) (λ c. search (rules, by-case))
     (λ c. search (rules, by-case)) (λ c. search (rules, by-case)) (λ c. search (rules, by-case)) (λ c. search (rules, by-case)) (λ c. search (rules, by-case))
-    (λ c. search (rules, by-case)) (λ c. search (rules, by-case)) (λ c. by-case _ _ c.before.before.before.c9.given.1 cc) (λ c. search (rules, by-case))
+    (λ c. search (rules, by-case)) (λ c. search (rules, by-case)) (λ c. by-case _ _ c.in-Ltz.is cc) (λ c. search (rules, by-case))
     (λ c. search (rules, by-case)) (λ c. search (rules, by-case)) (λ c. search (rules, by-case)) (λ c. search (rules, by-case)))

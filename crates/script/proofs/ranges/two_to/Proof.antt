@@ -8,8 +8,8 @@ use lib.Pow.{shl_exact}
 use Rattle.script.proofs.ranges.two_to.Statement.{statement}
 use Rattle.script.proofs.ranges.two_to.Tie as tie
 
-pub two-to-spec : {M : Type 1} → statement M
-two-to-spec =
+pub two_to_spec : {M : Type 1} → statement M
+two_to_spec =
     tie.close
     (tie.spec
     (λ c. search rules)

@@ -4,5 +4,5 @@ use borrow.Author.Rules.{rules}
 use Rattle.script.proofs.ranges.with_k.Statement.{statement}
 use Rattle.script.proofs.ranges.with_k.Tie as tie
 
-pub with-k-spec : {M : Type 1} → statement M
-with-k-spec = tie.close (tie.spec (λ c κs. search rules) (λ c κs. search rules) (λ c κs. search rules) (λ c. cc))
+pub with_k_spec : {M : Type 1} → statement M
+with_k_spec = tie.close (tie.spec (λ c κs. search rules) (λ c κs. search rules) (λ c κs. search rules) (λ c. cc))

@@ -5,5 +5,5 @@ use borrow.Author.Rules.{rules}
 use Rattle.sharing.proofs.opening.opened_value.Statement.{statement}
 use Rattle.sharing.proofs.opening.opened_value.Tie as tie
 
-pub opened-value-spec : {M : Type 1} → statement M
-opened-value-spec = tie.close (tie.spec (λ c κs. search rules) (λ c κs. search rules) (λ c. search (rules, value_reduced)))
+pub opened_value_spec : {M : Type 1} → statement M
+opened_value_spec = tie.close (tie.spec (λ c κs. search rules) (λ c κs. search rules) (λ c. search (rules, value_reduced)))

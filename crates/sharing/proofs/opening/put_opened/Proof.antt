@@ -12,14 +12,12 @@ use Rattle.sharing.proofs.opening.put_opened.Tie as tie
 sized : (s : tie.Start) → length s.args.row.shares ≡ 7
 sized s = search rules
 
-returns : tie.Need-returns
+returns : tie.Need-returns-then-all_present
 returns c =
-    let put = c.before.before in
-    let test = put.before.before.before in
-    let s = put.before.before.before.before.before.before in
-    all_recorded (setting_of s.args.setting) s.args.row.shares s.args.at _ (omega (arith, sized s)) test.all_present.ensures put.before.before.if1.true put.put-shares.ensures
+    let s = c.before.before.before.before.before.before.before in
+    all_recorded (setting_of s.args.setting) s.args.row.shares s.args.at _ (omega (arith, sized s.before)) c.all_present.ensures c.if-all_present.true c.put_shares.ensures
 
-pub put-opened-spec : {M : Type 1} → statement M
-put-opened-spec =
+pub put_opened_spec : {M : Type 1} → statement M
+put_opened_spec =
     tie.close
     (tie.spec (λ c κs. search rules) (λ c κs. search rules) (λ c. search rules) returns (λ c κs. search rules) (λ c. search rules) (λ c. search rules))

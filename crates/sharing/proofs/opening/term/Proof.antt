@@ -7,15 +7,14 @@ use native.Mathlib.Omega.{arith}
 use Rattle.sharing.proofs.opening.term.Statement.{statement}
 use Rattle.sharing.proofs.opening.term.Tie as tie
 
-mul-result : tie.Need-overflow-mul-result
-mul-result c = omega (arith, product_fits c.before.before.wide.ensures.1 c.wide2.ensures.1)
+mul-result : tie.Need-overflow_mul-result
+mul-result c = omega (arith, product_fits c.wide.ensures.1 c.wide-2.ensures.1)
 
 returns : tie.Need-returns
 returns c =
-    let s = c.before.before.before.before in
-    rw (at_place s.args.t2.shares s.args.point.party s.requires.0, c.before.before.wide.ensures.0, c.wide2.ensures.0)
+    rw (at_place c.args.row.shares c.args.point.party c.requires.0, c.wide.ensures.0, c.wide-2.ensures.0)
 
-pub term-spec : {M : Type 1} → statement M
-term-spec =
+pub term_spec : {M : Type 1} → statement M
+term_spec =
     tie.close
     (tie.spec (λ c. search rules) (λ c κs. search rules) (λ c. search rules) (λ c. search rules) (λ c. search rules) (λ c κs. search rules) mul-result returns)

@@ -9,32 +9,32 @@ use native.Mathlib.Omega.{arith}
 use Rattle.sharing.proofs.polynomial.put_coefficients.Statement.{statement}
 use Rattle.sharing.proofs.polynomial.put_coefficients.Tie as tie
 
-abbrev invariant-loop : tie.invariant-loop
+abbrev invariant-loop : tie.invariant-loop-k
 invariant-loop field t constant out₀ rest₀ c₀ k₀ out rest c k = Recovering (modulus field) t rest₀.shares out₀ k c rest.shares out
 
-abbrev decreases-loop : tie.decreases-loop
+abbrev decreases-loop : tie.decreases-loop-k
 decreases-loop field t constant out₀ rest₀ c₀ k₀ out rest c k = t - k
 
 M : (c : tie.Start invariant-loop decreases-loop) → Modulus (modulus c.args.field)
 M c = (fields c.args.field c.requires.0).modulus_is
 
-loop-holds : tie.Need-loop-init invariant-loop decreases-loop
+loop-holds : tie.Need-loop-k-init invariant-loop decreases-loop
 loop-holds c = let s = c.before in recovering_start (M s) _ (omega arith) _ _ s.requires.3 s.requires.2
 
-slice-write-out : tie.Need-slice-write-out invariant-loop decreases-loop
-slice-write-out c = let s = c.before.before.before.before.before.before in omega (arith, recovering_length (M s) _ (omega arith) _ _ s.requires.3 c.before.before.before.before.loop.invariant)
+slice-write-out : tie.Need-bounds-out-k invariant-loop decreases-loop
+slice-write-out c = let s = c.before.before.before.before.before.before in omega (arith, recovering_length (M s) _ (omega arith) _ _ s.requires.3 c.loop-k.invariant)
 
-loop-again : tie.Need-loop-preserved invariant-loop decreases-loop
-loop-again c = let s = c.before.before.before.before.before.before in recovering_more (M s) _ (omega arith) _ _ s.requires.3 c.before.before.before.before.loop.invariant (omega arith) c.before.before.take_off.ensures (rw c.before.modulus.ensures.0 at c.value_before.ensures.0)
+loop-again : tie.Need-loop-k-preserved invariant-loop decreases-loop
+loop-again c = let s = c.before.before.before.before.before.before in recovering_more (M s) _ (omega arith) _ _ s.requires.3 c.loop-k.invariant (omega arith) c.take_off-rest.ensures (rw c.modulus.ensures.0 at c.value_before-c.ensures.0)
 
-same_length : tie.Need-same-length invariant-loop decreases-loop
-same_length c = let s = c.before.before.before in omega (arith, recovering_length (M s) _ (omega arith) _ _ s.requires.3 c.before.loop.invariant)
+same_length : tie.Need-shape_of-out invariant-loop decreases-loop
+same_length c = let s = c.before.before.before in omega (arith, recovering_length (M s) _ (omega arith) _ _ s.requires.3 c.loop-k.invariant)
 
 returns : tie.Need-returns invariant-loop decreases-loop
-returns c = let s = c.before.before.before in recovering_end (M s) _ (omega arith) _ _ s.requires.3 c.before.loop.invariant (omega arith)
+returns c = let s = c.before.before.before in recovering_end (M s) _ (omega arith) _ _ s.requires.3 c.loop-k.invariant (omega arith)
 
-pub put-coefficients-spec : {M : Type 1} → statement M
-put-coefficients-spec =
+pub put_coefficients_spec : {M : Type 1} → statement M
+put_coefficients_spec =
     tie.close
     (tie.spec invariant-loop decreases-loop loop-holds (λ c. search rules) (λ c κs. search rules) (λ c κs. search rules) (λ c κs. search rules) (λ c. search rules)
     slice-write-out (λ c. search rules) (λ c. search rules) loop-again same_length returns)

@@ -5,8 +5,8 @@ use borrow.Author.Rules.{rules}
 use Rattle.sharing.proofs.rows.cell_row.Statement.{statement}
 use Rattle.sharing.proofs.rows.cell_row.Tie as tie
 
-pub cell-row-spec : {M : Type 1} → statement M
-cell-row-spec =
+pub cell_row_spec : {M : Type 1} → statement M
+cell_row_spec =
     tie.close
     (tie.spec (λ c. search rules) (λ c. search rules) (λ c. search rules) (λ c. search rules) (λ c. search rules) (λ c. search rules) (λ c. search rules)
     (λ c. search rules) (λ c. search rules) (λ c. search rules) (λ c. search rules) (λ c. search rules) (λ c. search rules) (λ c. search rules)

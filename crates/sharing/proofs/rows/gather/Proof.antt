@@ -9,23 +9,23 @@ use native.Mathlib.Omega.{arith}
 use Rattle.sharing.proofs.rows.gather.Statement.{statement}
 use Rattle.sharing.proofs.rows.gather.Tie as tie
 
-abbrev invariant-loop : tie.invariant-loop
+abbrev invariant-loop : tie.invariant-loop-j
 invariant-loop xs shares₀ j₀ shares j = Filling (length xs) (λ k. get_or xs k 0) j shares
 
-abbrev decreases-loop : tie.decreases-loop
+abbrev decreases-loop : tie.decreases-loop-j
 decreases-loop xs shares₀ j₀ shares j = length xs - j
 
-loop-holds : tie.Need-loop-init invariant-loop decreases-loop
+loop-holds : tie.Need-loop-j-init invariant-loop decreases-loop
 loop-holds c = filling_start _ _
 
-loop-again : tie.Need-loop-preserved invariant-loop decreases-loop
-loop-again c = filling_more c.before.before.loop.invariant (omega arith) (omega arith) refl
+loop-again : tie.Need-loop-j-preserved invariant-loop decreases-loop
+loop-again c = filling_more c.loop-j.invariant (omega arith) (omega arith) refl
 
 returns : tie.Need-returns invariant-loop decreases-loop
-returns c = filling_end c.before.loop.invariant (omega arith)
+returns c = filling_end c.loop-j.invariant (omega arith)
 
-pub gather-spec : {M : Type 1} → statement M
-gather-spec =
+pub gather_spec : {M : Type 1} → statement M
+gather_spec =
     tie.close
     (tie.spec invariant-loop decreases-loop loop-holds (λ c. search rules) (λ c. search rules) (λ c. search rules) (λ c. search rules) (λ c. search rules)
     (λ c. search rules) loop-again returns)

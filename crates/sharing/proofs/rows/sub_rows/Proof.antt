@@ -9,18 +9,18 @@ use lib.ListN.{get_or}
 use Rattle.sharing.proofs.rows.sub_rows.Statement.{statement}
 use Rattle.sharing.proofs.rows.sub_rows.Tie as tie
 
-abbrev invariant-loop : tie.invariant-loop
+abbrev invariant-loop : tie.invariant-loop-j
 invariant-loop setting a b shares₀ j₀ shares j = Filling setting.n (λ k. sub setting.p (get_or a.shares k 0) (get_or b.shares k 0)) j shares
 
-abbrev decreases-loop : tie.decreases-loop
+abbrev decreases-loop : tie.decreases-loop-j
 decreases-loop setting a b shares₀ j₀ shares j = setting.n - j
 
 returns : tie.Need-returns invariant-loop decreases-loop
 unfolding minus
 returns c = search (rules, filling_end)
 
-pub sub-rows-spec : {M : Type 1} → statement M
-sub-rows-spec =
+pub sub_rows_spec : {M : Type 1} → statement M
+sub_rows_spec =
     tie.close
     (tie.spec invariant-loop decreases-loop (λ c. filling_start _ _) (λ c. search rules) (λ c. search rules) (λ c. search rules) (λ c. search rules) (λ c κs. search rules)
     (λ c. search rules) (λ c. search rules) (λ c. search rules) (λ c. search rules) (λ c. search (rules, filling_more)) returns)

@@ -16,13 +16,13 @@ tested c m n e = ap (eqb c) e
 returns : tie.Need-returns
 unfolding good_triple
 returns c =
-    let a = rw c.before.before.before.before.before.before.read-row.ensures at c.before.before.before.before.before.secret-of.ensures.0 in
-    let b = rw c.before.before.before.before.read-row2.ensures at c.before.before.before.secret-of2.ensures.0 in
-    let d = rw c.before.before.read-row3.ensures at c.before.secret-of3.ensures.0 in
+    let a = rw c.read_row.ensures at c.secret_of-a.ensures.0 in
+    let b = rw c.read_row-2.ensures at c.secret_of-b.ensures.0 in
+    let d = rw c.read_row-3.ensures at c.secret_of-c.ensures.0 in
     rw (c.mul.ensures.0, a, b, d) (search (tested, mul_turned))
 
-pub good-triple-spec : {M : Type 1} → statement M
-good-triple-spec =
+pub good_triple_spec : {M : Type 1} → statement M
+good_triple_spec =
     tie.close
     (tie.spec (λ c κs. search rules) (λ c κs. search rules) (λ c. search rules) (λ c. search rules) (λ c κs. search rules) (λ c κs. search rules)
     (λ c. search rules) (λ c. search rules) (λ c. search rules) (λ c κs. search rules) (λ c κs. search rules) (λ c κs. search rules) returns)

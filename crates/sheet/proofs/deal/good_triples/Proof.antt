@@ -10,29 +10,29 @@ use native.Mathlib.Omega.{arith}
 use Rattle.sheet.proofs.deal.good_triples.Statement.{statement}
 use Rattle.sheet.proofs.deal.good_triples.Tie as tie
 
-abbrev invariant-loop : tie.invariant-loop
+abbrev invariant-loop : tie.invariant-loop-k
 invariant-loop S s i count size from₀ k₀ from k = Testing (good_triple (setting_of S)) (triples_from s S.n) (4 * S.n * 3) i count k from
 
-abbrev decreases-loop : tie.decreases-loop
+abbrev decreases-loop : tie.decreases-loop-k
 decreases-loop S s i count size from₀ k₀ from k = count - k
 
-good-triple-requires : tie.Need-good-triple-requires invariant-loop decreases-loop
-good-triple-requires c κs = let l = testing_fits c.before.loop.invariant (omega arith) in search rules
+good-triple-requires : tie.Need-good_triple-requires invariant-loop decreases-loop
+good-triple-requires c κs = let l = testing_fits c.loop-k.invariant (omega arith) in search rules
 
-add-from : tie.Need-overflow-add-from invariant-loop decreases-loop
-add-from c = let l = testing_fits c.before.before.before.loop.invariant (omega arith) in search rules
+add-from : tie.Need-overflow_add-from invariant-loop decreases-loop
+add-from c = let l = testing_fits c.loop-k.invariant (omega arith) in search rules
 
-loop-again : tie.Need-loop-preserved invariant-loop decreases-loop
-loop-again c = testing_more (triples_run _ _) c.before.before.before.loop.invariant (omega arith) (told c.before.good_triple_lem.ensures c.if1.true)
+loop-again : tie.Need-loop-k-preserved invariant-loop decreases-loop
+loop-again c = testing_more (triples_run _ _) c.loop-k.invariant (omega arith) (told c.good_triple.ensures c.if-good_triple.true)
 
-returns : tie.Need-returns invariant-loop decreases-loop
-returns c = testing_fails (triples_run _ _) c.before.before.before.loop.invariant (omega arith) (told c.before.good_triple_lem.ensures c.if1.false)
+returns : tie.Need-returns-else-good_triple invariant-loop decreases-loop
+returns c = testing_fails (triples_run _ _) c.loop-k.invariant (omega arith) (told c.good_triple.ensures c.if-good_triple.false)
 
-returns-2 : tie.Need-returns-2 invariant-loop decreases-loop
-returns-2 c = testing_end (triples_run _ _) c.before.loop.invariant (omega arith)
+returns-2 : tie.Need-returns invariant-loop decreases-loop
+returns-2 c = testing_end (triples_run _ _) c.loop-k.invariant (omega arith)
 
-pub good-triples-spec : {M : Type 1} → statement M
-good-triples-spec =
+pub good_triples_spec : {M : Type 1} → statement M
+good_triples_spec =
     tie.close
     (tie.spec invariant-loop decreases-loop (λ c. search rules) (λ c. search rules) (λ c. testing_start) good-triple-requires add-from (λ c. search rules) (λ c. search rules)
     loop-again returns returns-2)

@@ -13,29 +13,29 @@ use Rattle.sheet.proofs.header.frame_of.Tie as tie
 fits : (c : tie.Start) → Fitting (told c.args.h)
 fits c = fitting (told c.args.h) c.requires
 
-add-input : tie.Need-overflow-add-input
+add-input : tie.Need-overflow_add-input
 add-input c = omega (arith, fits c.before.before.before.before)
 
-mul-mask-2 : tie.Need-overflow-mul-mask-2
+mul-mask-2 : tie.Need-overflow_mul-mask-2
 mul-mask-2 c = omega (arith, fits c.before.before.before.before.before)
 
-add-mask : tie.Need-overflow-add-mask
+add-mask : tie.Need-overflow_add-mask
 add-mask c = omega (arith, fits c.before.before.before.before.before)
 
-mul-triple-2 : tie.Need-overflow-mul-triple-2
+mul-triple-2 : tie.Need-overflow_mul-triple-2
 unfolding mask_bits
-mul-triple-2 c = rw c.before.before.before.bits.ensures (omega (arith, fits c.before.before.before.before.before))
+mul-triple-2 c = rw c.bits-l.ensures (omega (arith, fits c.before.before.before.before.before))
 
-mul-triple-3 : tie.Need-overflow-mul-triple-3
+mul-triple-3 : tie.Need-overflow_mul-triple-3
 unfolding mask_bits
-mul-triple-3 c = rw c.before.before.before.before.bits.ensures (omega (arith, fits c.before.before.before.before.before.before))
+mul-triple-3 c = rw c.bits-l.ensures (omega (arith, fits c.before.before.before.before.before.before))
 
-add-triple : tie.Need-overflow-add-triple
+add-triple : tie.Need-overflow_add-triple
 unfolding mask_bits
-add-triple c = rw c.before.before.before.before.bits.ensures (omega (arith, fits c.before.before.before.before.before.before))
+add-triple c = rw c.bits-l.ensures (omega (arith, fits c.before.before.before.before.before.before))
 
-pub frame-of-spec : {M : Type 1} → statement M
-frame-of-spec =
+pub frame_of_spec : {M : Type 1} → statement M
+frame_of_spec =
     tie.close
     (tie.spec (λ c. search rules) (λ c κs. search (rules, below_four)) (λ c. search rules) (λ c. search rules) add-input (λ c. search rules) mul-mask-2 add-mask
     (λ c. search rules) mul-triple-2 mul-triple-3 add-triple (λ c κs. search rules) (λ c κs. search rules) (λ c κs. search (rules, below_four)) (λ c. search rules)

@@ -7,13 +7,13 @@ use Rattle.sheet.proofs.Answers.{setting_read}
 use Rattle.sheet.proofs.header.header_number.Statement.{statement}
 use Rattle.sheet.proofs.header.header_number.Tie as tie
 
-returns : tie.Need-returns
+returns : tie.Need-returns-then-s-lt-HEADER_SIZE
 unfolding header_size header_tests
 returns c = search (rules, trying)
 
-returns-2 : tie.Need-returns-2
+returns-2 : tie.Need-returns
 unfolding header_size header_tests
 returns-2 c = search (rules, trying, setting_read)
 
-pub header-number-spec : {M : Type 1} → statement M
-header-number-spec = tie.close (tie.spec returns (λ c κs. search rules) (λ c κs. search rules) returns-2)
+pub header_number_spec : {M : Type 1} → statement M
+header_number_spec = tie.close (tie.spec returns (λ c κs. search rules) (λ c κs. search rules) returns-2)

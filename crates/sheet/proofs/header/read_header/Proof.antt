@@ -7,12 +7,12 @@ use Rattle.sheet.proofs.Answers.{header_long, header_permitted, within_limits, o
 use Rattle.sheet.proofs.header.read_header.Statement.{statement}
 use Rattle.sheet.proofs.header.read_header.Tie as tie
 
-read-numbers-requires : tie.Need-read-numbers-requires
+read-numbers-requires : tie.Need-read_numbers-h-requires
 unfolding header_size
 read-numbers-requires c κs = search (rules, header_long)
 
-pub read-header-spec : {M : Type 1} → statement M
-read-header-spec =
+pub read_header_spec : {M : Type 1} → statement M
+read_header_spec =
     tie.close
     (tie.spec (λ c κs. search rules) (λ c. search (rules, trying)) read-numbers-requires (λ c κs. search rules) (λ c κs. search (rules, header_permitted))
     (λ c. search (rules, within_limits, headed_read)) (λ c. search (rules, over_limits)))

@@ -7,23 +7,22 @@ use Rattle.sheet.proofs.Answers.{header_long, people_read, header_permitted, set
 use Rattle.sheet.proofs.header.read_run_header.Statement.{statement}
 use Rattle.sheet.proofs.header.read_run_header.Tie as tie
 
-read-numbers-requires : tie.Need-read-numbers-requires
+read-numbers-requires : tie.Need-read_numbers-h-requires
 unfolding header_size
 read-numbers-requires c κs = search (rules, header_long)
 
-may-run-requires : tie.Need-may-run-requires
-may-run-requires c κs = people_read _ c.before.before.header-number.ensures c.before.if1.false c.read-numbers.ensures
+may-run-requires : tie.Need-may_run-requires
+may-run-requires c κs = people_read _ c.header_number-number.ensures c.if-number-ne0.false c.read_numbers-h.ensures
 
-run-frame-of-requires : tie.Need-run-frame-of-requires
+run-frame-of-requires : tie.Need-run_frame_of-requires
 run-frame-of-requires c κs =
-    let m = c.before.before.before in
-    let h = m.before in (
+    (
       search (rules, header_permitted),
-      set_permitted _ h.before.before.header-number.ensures h.before.if1.false _ h.read-numbers.ensures m.may-run.ensures c.before.before.if2.true,
+      set_permitted _ c.header_number-number.ensures c.if-number-ne0.false _ c.read_numbers-h.ensures c.may_run.ensures c.if-may_run.true,
     )
 
-pub read-run-header-spec : {M : Type 1} → statement M
-read-run-header-spec =
+pub read_run_header_spec : {M : Type 1} → statement M
+read_run_header_spec =
     tie.close
     (tie.spec (λ c κs. search rules) (λ c. search (rules, trying)) read-numbers-requires may-run-requires (λ c κs. search rules)
     run-frame-of-requires (λ c. search (rules, within_limits_run, run_headed_read)) (λ c. search (rules, over_limits_run)) (λ c. search (rules, set_refused)))

@@ -8,9 +8,8 @@ use Rattle.sheet.proofs.header.run_frame_of.Tie as tie
 
 returns : tie.Need-returns
 returns c =
-    let f = c.before.before.before.before in
-    let H = f.frame-of.ensures in
-    (headed_with _ H, presented H f.before.requires.1 c.Opening-of.ensures _ refl refl refl refl)
+    let H = c.frame_of-f.ensures in
+    (headed_with _ H, presented H c.requires.1 c.opening_of-opening.ensures _ refl refl refl refl)
 
-pub run-frame-of-spec : {M : Type 1} → statement M
-run-frame-of-spec = tie.close (tie.spec (λ c κs. search rules) (λ c. search rules) (λ c. search rules) (λ c. search rules) (λ c κs. search rules) returns)
+pub run_frame_of_spec : {M : Type 1} → statement M
+run_frame_of_spec = tie.close (tie.spec (λ c κs. search rules) (λ c. search rules) (λ c. search rules) (λ c. search rules) (λ c κs. search rules) returns)

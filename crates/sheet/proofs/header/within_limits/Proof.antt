@@ -6,8 +6,8 @@ use Rattle.sheet.proofs.Headers.{inputs_over, masks_over, triples_over, script_d
 use Rattle.sheet.proofs.header.within_limits.Statement.{statement}
 use Rattle.sheet.proofs.header.within_limits.Tie as tie
 
-pub within-limits-spec : {M : Type 1} → statement M
-within-limits-spec =
+pub within_limits_spec : {M : Type 1} → statement M
+within_limits_spec =
     tie.close
     (tie.spec (λ c. search (rules, inputs_over)) (λ c. search (rules, masks_over)) (λ c. search (rules, triples_over))
     (λ c. script_decides _ (omega arith) (omega arith) (omega arith)))

@@ -17,8 +17,8 @@ run-low-requires c κs =
       omega (arith, c.if3),
     )
 
-pub run-cut-spec : {M : Type 1} → statement M
-run-cut-spec =
+pub run_cut_spec : {M : Type 1} → statement M
+run_cut_spec =
     tie.close
     (tie.spec (λ c κs. search rules) (λ c. search rules) (λ c. search rules) (λ c. search rules) (λ c. search rules) (λ c. search rules) run-low-requires
     (λ c. search rules))

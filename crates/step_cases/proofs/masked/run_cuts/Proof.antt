@@ -22,8 +22,8 @@ run-cut-requires c κs =
       c.cut_of.ensures,
     )
 
-pub run-cuts-spec : {M : Type 1} → statement M
-run-cuts-spec =
+pub run_cuts_spec : {M : Type 1} → statement M
+run_cuts_spec =
     tie.close
     (tie.spec (λ c. search rules) (λ c. search rules) (λ c. search rules) (λ c. search rules) (λ c. search rules) (λ c κs. search rules) (λ c. search rules)
     (λ c κs. search rules) (λ c. search rules) (λ c κs. search rules) run-cut-requires (λ c. search rules))

@@ -25,8 +25,8 @@ cut-row-requires c κs =
       };
     })
 
-pub run-low-spec : {M : Type 1} → statement M
-run-low-spec =
+pub run_low_spec : {M : Type 1} → statement M
+run_low_spec =
     tie.close
     (tie.spec (λ c. search rules) (λ c. search rules) (λ c. search rules) (λ c. search rules) (λ c. search rules) (λ c κs. search rules) (λ c. search rules)
     (λ c. search rules) (λ c κs. search rules) (λ c. search rules) (λ c. search rules) (λ c κs. search rules) (λ c. search rules) cut-row-requires

@@ -12,5 +12,5 @@ mul-result c = record { fits = omega (arith, mul-le-mul {n₂ = 100} {m₂ = 100
 returns : tie.Need-returns
 returns c = (refl, omega (arith, mul-le-mul {n₂ = 100} {m₂ = 100} c.requires.0 c.requires.1))
 
-pub times-spec : {M : Type 1} → statement M
-times-spec = tie.close (tie.spec mul-result returns)
+pub times_spec : {M : Type 1} → statement M
+times_spec = tie.close (tie.spec mul-result returns)

@@ -11,5 +11,5 @@ slice-aggregate-rows-2 c = search rules
 rows-requires : tie.Need-rows-requires
 rows-requires c κs = omega (arith, slice-aggregate-rows-2 c)
 
-pub left-spec : {M : Type 1} → statement M
-left-spec = tie.close (tie.spec (λ c. search rules) slice-aggregate-rows-2 rows-requires (λ c. search rules))
+pub left_spec : {M : Type 1} → statement M
+left_spec = tie.close (tie.spec (λ c. search rules) slice-aggregate-rows-2 rows-requires (λ c. search rules))

@@ -13,8 +13,8 @@ comparison-requires c κs =
       record { fitting = C.placed.fitting; triples = C.triples; openings = omega (arith, C.placed.log, c.before.if1, t.times.ensures) },
     )
 
-pub compare-cells-spec : {M : Type 1} → statement M
-compare-cells-spec =
+pub compare_cells_spec : {M : Type 1} → statement M
+compare_cells_spec =
     tie.close
     (tie.spec (λ c κs. search rules) (λ c. search rules) (λ c. search rules) (λ c κs. search rules) (λ c. search rules) (λ c. search rules) comparison-requires
     (λ c. search rules) (λ c. search rules) (λ c. search rules) (λ c κs. search rules) (λ c. search rules))

@@ -20,5 +20,5 @@ returns c = none _ _ c.if1.true
 returns-2 : tie.Need-returns-2
 returns-2 c = one _ _ c.if1.false
 
-pub mask-rows-spec : {M : Type 1} → statement M
-mask-rows-spec = tie.close (tie.spec returns returns-2)
+pub mask_rows_spec : {M : Type 1} → statement M
+mask_rows_spec = tie.close (tie.spec returns returns-2)

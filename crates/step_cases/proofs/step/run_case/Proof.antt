@@ -11,7 +11,7 @@ setting-of-requires c κs = (search (rules, setting_field), search (rules, setti
 run-rows-requires : tie.Need-run-rows-requires
 run-rows-requires c κs = (search rules, search (rules, setting_field), search rules, search rules)
 
-pub run-case-spec : {M : Type 1} → statement M
-run-case-spec =
+pub run_case_spec : {M : Type 1} → statement M
+run_case_spec =
     tie.close
     (tie.spec (λ c. search rules) (λ c κs. search rules) (λ c κs. search rules) (λ c κs. search rules) (λ c κs. search rules) (λ c. search rules) (λ c. search rules) (λ c. search rules) (λ c. search rules) (λ c. search rules) setting-of-requires run-rows-requires (λ c. search rules))

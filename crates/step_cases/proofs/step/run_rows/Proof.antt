@@ -12,8 +12,8 @@ run-step-requires c κs =
     let h = p.places_of.ensures in
     (P.1, P.3, record { fitting = P.2; words = P.0; mask = omega (arith, c.if1, h.0); triple = omega (arith, c.if1); log = h.2 })
 
-pub run-rows-spec : {M : Type 1} → statement M
-run-rows-spec =
+pub run_rows_spec : {M : Type 1} → statement M
+run_rows_spec =
     tie.close
     (tie.spec (λ c κs. search rules) (λ c κs. search rules) (λ c κs. search rules) (λ c. search rules) (λ c κs. search rules) (λ c. search rules)
     (λ c. search rules) run-step-requires (λ c. search rules))

@@ -39,7 +39,7 @@ returns c =
     let s = m.before in
     (fits _ _ _ s.requires.0 s.requires.1 m.modulus.ensures.0 c.before.before.before.bits.ensures c.Opening-of.ensures.1, m.modulus.ensures.0)
 
-pub setting-of-spec : {M : Type 1} → statement M
-setting-of-spec =
+pub setting_of_spec : {M : Type 1} → statement M
+setting_of_spec =
     tie.close
     (tie.spec (λ c κs. search rules) (λ c κs. search (rules, below_four)) (λ c. search rules) (λ c κs. search rules) (λ c κs. search rules) opening-of-requires returns)

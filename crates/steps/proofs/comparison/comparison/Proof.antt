@@ -6,35 +6,30 @@ use Rattle.steps.proofs.Comparing.{Comparing, comparing_start, turn_room, turn_a
 use Rattle.steps.proofs.comparison.comparison.Statement.{statement}
 use Rattle.steps.proofs.comparison.comparison.Tie as tie
 
-abbrev invariant-loop : tie.invariant-loop
+abbrev invariant-loop : tie.invariant-loop-k
 invariant-loop setting s log₀ v w bits lt₀ rest₀ next₀ k₀ log lt rest next k = Comparing s setting v w bits next₀ log₀ log lt.shares rest next k
 
-abbrev decreases-loop : tie.decreases-loop
+abbrev decreases-loop : tie.decreases-loop-k
 decreases-loop setting s log₀ v w bits lt₀ rest₀ next₀ k₀ log lt rest next k = w - k
 
-product-requires : tie.Need-product-requires invariant-loop decreases-loop
-product-requires c κs = turn_room c.before.before.before.loop.invariant c.before.before.loop-test.true
+product-requires : tie.Need-product-q-requires invariant-loop decreases-loop
+product-requires c κs = turn_room c.loop-k.invariant c.loop-k-test.true
 
-past-requires : tie.Need-past-requires invariant-loop decreases-loop
+past-requires : tie.Need-past-next-requires invariant-loop decreases-loop
 past-requires c κs =
-    let t = c.before.before.before.before.before.before in
-    turn_ahead t.before.loop.invariant t.loop-test.true
+    turn_ahead c.loop-k.invariant c.loop-k-test.true
 
-add-k : tie.Need-overflow-add-k invariant-loop decreases-loop
+add-k : tie.Need-overflow_add-k invariant-loop decreases-loop
 add-k c =
-    let p = c.before.before.before.before in
-    let t = p.before.before.before in
-    record { fits = turn_counts t.before.loop.invariant t.loop-test.true }
+    record { fits = turn_counts c.loop-k.invariant c.loop-k-test.true }
 
-loop-again : tie.Need-loop-preserved invariant-loop decreases-loop
+loop-again : tie.Need-loop-k-preserved invariant-loop decreases-loop
 loop-again c =
-    let p = c.before.before.before.before in
-    let t = p.before.before.before in
-    rw c.past.ensures
-    (comparing_more t.before.loop.invariant t.loop-test.true p.before.before.cell-row2.ensures p.product.ensures (search rules) c.before.next_row.ensures)
+    rw c.past-next.ensures
+    (comparing_more c.loop-k.invariant c.loop-k-test.true c.cell_row-bit.ensures c.product-q.ensures (search rules) c.next_row-lt.ensures)
 
-pub comparison-spec : {M : Type 1} → statement M
-comparison-spec =
+pub comparison_spec : {M : Type 1} → statement M
+comparison_spec =
     tie.close
     (tie.spec invariant-loop decreases-loop (λ c κs. search rules) (λ c κs. search rules) (λ c. search (rules, comparing_start)) (λ c κs. search rules) product-requires
     (λ c κs. search rules) past-requires add-k (λ c. search rules) loop-again (λ c. search rules) (λ c. search (rules, comparing_end)))

@@ -23,8 +23,8 @@ opens_at {at = at} log O =
     let none : drop (length log - at) (drop at log) ≡ [] = drop_of_length-le (drop at log) {i = length log - at} (rw (length-drop at log) (omega arith)) in
     record { value_is = O.value_is; below = O.below; log_is = rw (O.log_is, whole, none, append-nil) }
 
-pub open-at-spec : {M : Type 1} → statement M
-open-at-spec =
+pub open_at_spec : {M : Type 1} → statement M
+open_at_spec =
     tie.close
     (tie.spec (λ c. search rules) (λ c. search rules) (λ c. search rules) (λ c. search rules) (λ c κs. search rules) (λ c. search rules)
-    (λ c. opens_at _ c.before.before.open_row.ensures))
+    (λ c. opens_at _ c.open_row.ensures))

@@ -17,7 +17,7 @@ opens : (S : Setting) (at : ℕ) (x : Row) (log : List ℕ) {v : ℕ} {log' : Li
 unfolding written
 opens S at x log e b l = record { value_is = e; below = b; log_is = l ∙ rw append-nil }
 
-pub open-row-spec : {M : Type 1} → statement M
-open-row-spec =
+pub open_row_spec : {M : Type 1} → statement M
+open_row_spec =
     tie.close
     (tie.spec (λ c κs. search rules) (λ c κs. search rules) (λ c. search rules) (λ c. search (rules, opens)))

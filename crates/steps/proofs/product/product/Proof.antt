@@ -7,14 +7,11 @@ use Rattle.steps.proofs.product.product.Tie as tie
 
 returns : tie.Need-returns
 returns c =
-    let second = c.before.before.before in
-    let first = second.before.before.before.before.before in
-    let read = first.before.before in
-    product_leaves _ _ read.before.before.before.before.before.requires.fitting.parties read.before.before.read-row.ensures read.before.read-row2.ensures read.read-row3.ensures
-    first.open-difference.ensures second.open-difference2.ensures c.beaver.ensures
+    product_leaves _ _ c.requires.fitting.parties c.read_row-a.ensures c.read_row-b.ensures c.read_row-c.ensures
+    c.open_difference-a1.ensures c.open_difference-b1.ensures c.beaver.ensures
 
-pub product-spec : {M : Type 1} → statement M
-product-spec =
+pub product_spec : {M : Type 1} → statement M
+product_spec =
     tie.close
     (tie.spec (λ c κs. search rules) (λ c. search rules) (λ c. search rules) (λ c κs. search rules) (λ c. search rules) (λ c. search rules)
     (λ c κs. search rules) (λ c κs. search rules) (λ c. search rules) (λ c κs. search rules) (λ c κs. search rules) (λ c. search rules) returns)

@@ -7,12 +7,9 @@ use Rattle.steps.proofs.remainder.from_u1.Tie as tie
 
 returns : tie.Need-returns
 returns c =
-    let p = c.before.before.before.before in
-    let d = p.before.before in
-    let s = d.before.before.before.before in
-    u1_leaves s.args.x _ _ _ _ s.requires.0.fitting.parties d.sub-rows.ensures p.product.ensures c.before.add-rows.ensures c.unmasked-row.ensures
+    u1_leaves c.args.x _ _ _ _ c.requires.0.fitting.parties c.sub_rows-difference.ensures c.product-g.ensures c.add_rows.ensures c.unmasked_row.ensures
 
-pub from-u1-spec : {M : Type 1} → statement M
-from-u1-spec =
+pub from_u1_spec : {M : Type 1} → statement M
+from_u1_spec =
     tie.close
     (tie.spec (λ c κs. search rules) (λ c κs. search rules) (λ c κs. search rules) (λ c κs. search rules) (λ c. search rules) returns)

@@ -9,9 +9,9 @@ use Rattle.registers.proofs.table.Table.compare.Tie as tie
 
 returns : tie.Need-returns
 returns c =
-    let made = c.before.before.before.comparison-from in
-    let seven : length made.result.shares ≡ 7 = search (rules, made.type-inv) in
+    let made = c.comparison_from-row in
+    let seven : length made.result.shares ≡ 7 = search (rules, made.type_inv) in
     (stored _ seven made.ensures c.put.ensures.0, c.put.ensures.1)
 
-pub compare-spec : {M : Type 1} → statement M
-compare-spec = tie.close (tie.spec (λ c κs. search rules) (λ c κs. search rules) (λ c. search rules) returns)
+pub compare_spec : {M : Type 1} → statement M
+compare_spec = tie.close (tie.spec (λ c κs. search rules) (λ c κs. search rules) (λ c. search rules) returns)

@@ -9,8 +9,8 @@ use Rattle.registers.proofs.table.Table.cut.Tie as tie
 
 returns : tie.Need-returns
 returns c =
-    let made = c.before.before.before.cut-from in
-    let seven : length made.result.shares ≡ 7 = search (rules, made.type-inv) in
+    let made = c.cut_from-row in
+    let seven : length made.result.shares ≡ 7 = search (rules, made.type_inv) in
     (stored _ seven made.ensures c.put.ensures.0, c.put.ensures.1)
 
 pub cut_spec : {M : Type 1} → statement M

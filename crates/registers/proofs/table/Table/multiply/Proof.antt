@@ -9,9 +9,9 @@ use Rattle.registers.proofs.table.Table.multiply.Tie as tie
 
 returns : tie.Need-returns
 returns c =
-    let made = c.before.before.before.product in
-    let seven : length made.result.shares ≡ 7 = search (rules, made.type-inv) in
-    (stored _ seven (rw (c.before.before.before.before.before.before.before.before.before.register.ensures, c.before.before.before.before.before.register2.ensures) at made.ensures) c.put.ensures.0, c.put.ensures.1)
+    let made = c.product-row in
+    let seven : length made.result.shares ≡ 7 = search (rules, made.type_inv) in
+    (stored _ seven (rw (c.register-left.ensures, c.register-right.ensures) at made.ensures) c.put.ensures.0, c.put.ensures.1)
 
-pub multiply-spec : {M : Type 1} → statement M
-multiply-spec = tie.close (tie.spec (λ c κs. search rules) (λ c κs. search rules) (λ c κs. search rules) (λ c κs. search rules) (λ c. search rules) returns)
+pub multiply_spec : {M : Type 1} → statement M
+multiply_spec = tie.close (tie.spec (λ c κs. search rules) (λ c κs. search rules) (λ c κs. search rules) (λ c κs. search rules) (λ c. search rules) returns)

@@ -10,27 +10,25 @@ use Rattle.registers.proofs.Cells.{whole_row}
 use Rattle.registers.proofs.table.Table.put.Statement.{statement}
 use Rattle.registers.proofs.table.Table.put.Tie as tie
 
-abbrev invariant-loop : tie.invariant-loop
+abbrev invariant-loop : tie.invariant-loop-j
 invariant-loop d self₀ row i j₀ self j = WritingAt i row.shares self₀.cells 7 j self.cells × (self.spent ≡ self₀.spent)
 
-abbrev decreases-loop : tie.decreases-loop
+abbrev decreases-loop : tie.decreases-loop-j
 decreases-loop d self₀ row i j₀ self j = 7 - j
 
-loop-again : tie.Need-loop-preserved invariant-loop decreases-loop
+loop-again : tie.Need-loop-j-preserved invariant-loop decreases-loop
 loop-again c =
-    let start = c.before.before.before in
-    let e : length start.args.t1.cells ≡ 448 = search rules in
-    let x : length start.args.t3.shares ≡ 7 = search rules in
-    let I = c.before.before.loop.invariant in
-    (writing_at_more I.0 (omega arith) (omega (arith, start.requires)) (omega arith) refl, I.1)
+    let e : length c.args.self.cells ≡ 448 = search rules in
+    let x : length c.args.row.shares ≡ 7 = search rules in
+    let I = c.loop-j.invariant in
+    (writing_at_more I.0 (omega arith) (omega (arith, c.requires)) (omega arith) refl, I.1)
 
 returns : tie.Need-returns invariant-loop decreases-loop
 returns c =
-    let start = c.before.before in
-    let e : length start.args.t1.cells ≡ 448 = search rules in
-    let x : length start.args.t3.shares ≡ 7 = search rules in
-    let I = c.before.loop.invariant in
-    (writing_at_end I.0 (omega arith) (omega (arith, start.requires)) (omega arith) ∙ whole_row _ _ _ (omega arith), I.1)
+    let e : length c.args.self.cells ≡ 448 = search rules in
+    let x : length c.args.row.shares ≡ 7 = search rules in
+    let I = c.loop-j.invariant in
+    (writing_at_end I.0 (omega arith) (omega (arith, c.requires)) (omega arith) ∙ whole_row _ _ _ (omega arith), I.1)
 
 pub put_spec : {M : Type 1} → statement M
 put_spec =

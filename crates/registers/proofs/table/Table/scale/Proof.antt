@@ -9,9 +9,9 @@ use Rattle.registers.proofs.table.Table.scale.Tie as tie
 
 returns : tie.Need-returns
 returns c =
-    let made = c.before.scale-row in
-    let seven : length made.result.shares ≡ 7 = search (rules, made.type-inv) in
-    (stored _ seven (made.ensures ∙ rw c.before.before.register.ensures) c.put.ensures.0, c.put.ensures.1)
+    let made = c.scale_row-row in
+    let seven : length made.result.shares ≡ 7 = search (rules, made.type_inv) in
+    (stored _ seven (made.ensures ∙ rw c.register.ensures) c.put.ensures.0, c.put.ensures.1)
 
-pub scale-spec : {M : Type 1} → statement M
-scale-spec = tie.close (tie.spec (λ c κs. search rules) (λ c κs. search rules) (λ c κs. search rules) returns)
+pub scale_spec : {M : Type 1} → statement M
+scale_spec = tie.close (tie.spec (λ c κs. search rules) (λ c κs. search rules) (λ c κs. search rules) returns)

@@ -9,9 +9,9 @@ use Rattle.registers.proofs.table.Table.sub.Tie as tie
 
 returns : tie.Need-returns
 returns c =
-    let made = c.before.sub-rows in
-    let seven : length made.result.shares ≡ 7 = search (rules, made.type-inv) in
-    (stored _ seven (made.ensures ∙ rw (c.before.before.before.before.before.before.register.ensures, c.before.before.register2.ensures)) c.put.ensures.0, c.put.ensures.1)
+    let made = c.sub_rows-row in
+    let seven : length made.result.shares ≡ 7 = search (rules, made.type_inv) in
+    (stored _ seven (made.ensures ∙ rw (c.register-left.ensures, c.register-right.ensures)) c.put.ensures.0, c.put.ensures.1)
 
 pub sub_spec : {M : Type 1} → statement M
 sub_spec = tie.close (tie.spec (λ c κs. search rules) (λ c κs. search rules) (λ c κs. search rules) (λ c κs. search rules) returns)
