@@ -96,73 +96,73 @@ plain c e d es D = (rw (d.0, d.1) (performed c e D), rw d.1 es)
 returns : tie.Need-returns-in-Load
 returns c =
     let e = c.in-Load.is in
-    plain c.before.before.before e c.done.ensures c.load.ensures.1 (load_does (size (start c)) (ready c.before.before.before e) c.load.ensures.0)
+    plain c.before.before.before e c.done.ensures c.load.ensures.1 (load_does (size (start c.before.before.before)) (ready c.before.before.before e) c.load.ensures.0)
 
 returns-2 : tie.Need-returns-in-Const
 returns-2 c =
     let e = c.in-Const.is in
-    plain c.before.before.before e c.done-in-Const.ensures c.fill.ensures.1 (fill_does (size (start c)) (ready c.before.before.before e) c.fill.ensures.0)
+    plain c.before.before.before e c.done-in-Const.ensures c.fill.ensures.1 (fill_does (size (start c.before.before.before)) (ready c.before.before.before e) c.fill.ensures.0)
 
 returns-3 : tie.Need-returns-in-Add
 returns-3 c =
     let e = c.in-Add.is in
-    plain c.before.before.before e c.done-in-Add.ensures c.add.ensures.1 (add_does (size (start c)) (ready c.before.before.before e) c.add.ensures.0)
+    plain c.before.before.before e c.done-in-Add.ensures c.add.ensures.1 (add_does (size (start c.before.before.before)) (ready c.before.before.before e) c.add.ensures.0)
 
 returns-4 : tie.Need-returns-in-Sub
 returns-4 c =
     let e = c.in-Sub.is in
-    plain c.before.before.before e c.done-in-Sub.ensures c.sub.ensures.1 (sub_does (size (start c)) (ready c.before.before.before e) c.sub.ensures.0)
+    plain c.before.before.before e c.done-in-Sub.ensures c.sub.ensures.1 (sub_does (size (start c.before.before.before)) (ready c.before.before.before e) c.sub.ensures.0)
 
 returns-5 : tie.Need-returns-in-Scale
 returns-5 c =
     let e = c.in-Scale.is in
-    plain c.before.before.before e c.done-in-Scale.ensures c.scale.ensures.1 (scale_does (size (start c)) (ready c.before.before.before e) c.scale.ensures.0)
+    plain c.before.before.before e c.done-in-Scale.ensures c.scale.ensures.1 (scale_does (size (start c.before.before.before)) (ready c.before.before.before e) c.scale.ensures.0)
 
 returns-6 : tie.Need-returns-in-Mul
 returns-6 c =
     let e = c.in-Mul.is in
-    (performed c.before.before e (multiply_does (size (start c)) c.ahead_of-at.ensures _ refl (ready c.before.before e) c.multiply.ensures), c.multiply.ensures.stores.spent)
+    (performed c.before.before e (multiply_does (size (start c.before.before)) c.ahead_of-at.ensures _ refl (ready c.before.before e) c.multiply.ensures), c.multiply.ensures.stores.spent)
 
 returns-7 : tie.Need-returns-in-Mod
 returns-7 c =
     let e = c.in-Mod.is in
-    (performed c.before.before e (cut_does (size (start c)) c.ahead_of-at.ensures _ refl _ _ (Mod _ _) (ready c.before.before e) c.cut.ensures), c.cut.ensures.stores.spent)
+    (performed c.before.before e (cut_does (size (start c.before.before)) c.ahead_of-at.ensures _ refl _ _ (Mod _ _) (ready c.before.before e) c.cut.ensures), c.cut.ensures.stores.spent)
 
 returns-8 : tie.Need-returns-in-Trunc
 returns-8 c =
     let e = c.in-Trunc.is in
-    (performed c.before.before e (cut_does (size (start c)) c.ahead_of-at.ensures _ refl _ _ (Trunc _ _) (ready c.before.before e) c.cut-in-Trunc.ensures), c.cut-in-Trunc.ensures.stores.spent)
+    (performed c.before.before e (cut_does (size (start c.before.before)) c.ahead_of-at.ensures _ refl _ _ (Trunc _ _) (ready c.before.before e) c.cut-in-Trunc.ensures), c.cut-in-Trunc.ensures.stores.spent)
 
 returns-9 : tie.Need-returns-in-Ltz
 returns-9 c =
     let e = c.in-Ltz.is in
-    (performed c.before.before e (cut_does (size (start c)) c.ahead_of-at.ensures _ refl _ _ (Ltz _) (ready c.before.before e) c.cut-in-Ltz.ensures), c.cut-in-Ltz.ensures.stores.spent)
+    (performed c.before.before e (cut_does (size (start c.before.before)) c.ahead_of-at.ensures _ refl _ _ (Ltz _) (ready c.before.before e) c.cut-in-Ltz.ensures), c.cut-in-Ltz.ensures.stores.spent)
 
 returns-10 : tie.Need-returns-in-Over
 returns-10 c =
     let e = c.in-Over.is in
-    (performed c.before.before e (cut_does (size (start c)) c.ahead_of-at.ensures _ refl _ _ (Over _ _) (ready c.before.before e) c.cut-in-Over.ensures), c.cut-in-Over.ensures.stores.spent)
+    (performed c.before.before e (cut_does (size (start c.before.before)) c.ahead_of-at.ensures _ refl _ _ (Over _ _) (ready c.before.before e) c.cut-in-Over.ensures), c.cut-in-Over.ensures.stores.spent)
 
 returns-11 : tie.Need-returns-in-Blocks
 returns-11 c =
     let e = c.in-Blocks.is in
-    (performed c.before.before e (cut_does (size (start c)) c.ahead_of-at.ensures _ refl _ _ (Blocks _ _) (ready c.before.before e) c.cut-in-Blocks.ensures), c.cut-in-Blocks.ensures.stores.spent)
+    (performed c.before.before e (cut_does (size (start c.before.before)) c.ahead_of-at.ensures _ refl _ _ (Blocks _ _) (ready c.before.before e) c.cut-in-Blocks.ensures), c.cut-in-Blocks.ensures.stores.spent)
 
 returns-12 : tie.Need-returns-in-Reveal
 returns-12 c =
     let e = c.in-Reveal.is in
     let same = c.revealed.ensures.1 in
-    (rw same (performed c.before.before e (reveal_does (size (start c)) c.ahead_of-at.ensures (start c).args.table refl (ready c.before.before e) c.revealed.ensures.0)), ap (λ (t : Table). t.spent) same)
+    (rw same (performed c.before.before e (reveal_does (size (start c.before.before)) c.ahead_of-at.ensures (start c.before.before).args.table refl (ready c.before.before e) c.revealed.ensures.0)), ap (λ (t : Table). t.spent) same)
 
 returns-13 : tie.Need-returns-in-Bitlt
 returns-13 c =
     let e = c.in-Bitlt.is in
-    (performed c.before.before e (compare_does (size (start c)) c.ahead_of-at.ensures _ refl (ready c.before.before e) c.compare.ensures), c.compare.ensures.stores.spent)
+    (performed c.before.before e (compare_does (size (start c.before.before)) c.ahead_of-at.ensures _ refl (ready c.before.before e) c.compare.ensures), c.compare.ensures.stores.spent)
 
 returns-14 : tie.Need-returns-in-Ltzs
 returns-14 c =
     let e = c.in-Ltzs.is in
-    (performed c.before.before e (signs_does (size (start c)) c.ahead_of-at.ensures (start c).args.table refl (ready c.before.before e) c.signs.ensures.0), c.signs.ensures.1)
+    (performed c.before.before e (signs_does (size (start c.before.before)) c.ahead_of-at.ensures (start c.before.before).args.table refl (ready c.before.before e) c.signs.ensures.0), c.signs.ensures.1)
 
 pub perform_spec : {M : Type 1} → statement M
 perform_spec =
