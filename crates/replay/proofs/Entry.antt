@@ -35,7 +35,7 @@ use Rattle.sheet.specs.declared.header.Read.{Read}
 use Rattle.sheet.specs.declared.header.Read.TheVariants.{Sheet, Refused}
 use Rattle.sheet.specs.Reading.{told, Reads}
 use Rattle.sheet.proofs.Answers.{header_long}
-use Rattle.sheet.proofs.Headers.{bits_in, mask_rows_in, row_count}
+use Rattle.sheet.proofs.Headers.{bits_in, mask_rows_in}
 use Rattle.sheet.proofs.Scripts.{script_part, script_read}
 use Rattle.script.specs.Meaning.{script_number, script_place}
 use Rattle.model.specs.Counts.{no_counts}

@@ -5,14 +5,12 @@ use Rattle.replay.proofs.Entry.{count_refused, counts_in}
 use Rattle.replay.proofs.by_header.Statement.{statement}
 use Rattle.replay.proofs.by_header.Tie as tie
 
-by-lengths-requires : tie.Need-by-lengths-requires
+by-lengths-requires : tie.Need-by_lengths-requires
 by-lengths-requires c κs =
-    let call = c.before.before.before in
-    let start = call.before.before.before.before in
-    let C = counts_in _ start.args.head.now start.args.part.now start.args.log.now start.requires call.read-header.ensures c.before.read.given.1 in
-    (start.requires.0, start.requires.1, start.requires.2, C.0, C.1)
+    let C = counts_in _ c.args.head.now c.args.part.now c.args.log.now c.requires c.read_header-read.ensures c.in-Sheet.is in
+    (c.requires.0, c.requires.1, c.requires.2, C.0, C.1)
 
-returns-2 : tie.Need-returns-2
+returns-2 : tie.Need-returns-in-Refused
 returns-2 c = search count_refused
 
 pub by_header_spec : {M : Type 1} → statement M

@@ -5,7 +5,7 @@ use Rattle.replay.proofs.Entry.{script_refused}
 use Rattle.replay.proofs.by_script.Statement.{statement}
 use Rattle.replay.proofs.by_script.Tie as tie
 
-returns : tie.Need-returns
+returns : tie.Need-returns-then-found-ne0
 returns c = search script_refused
 
 pub by_script_spec : {M : Type 1} → statement M

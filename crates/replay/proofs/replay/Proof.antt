@@ -5,20 +5,17 @@ use Rattle.replay.proofs.Entry.{header_refused, party_in, party_out, long}
 use Rattle.replay.proofs.replay.Statement.{statement}
 use Rattle.replay.proofs.replay.Tie as tie
 
-returns : tie.Need-returns
+returns : tie.Need-returns-then-number-ne0
 returns c = search header_refused
 
 seated-requires : tie.Need-seated-requires
 seated-requires c κs = search long
 
-by-header-requires : tie.Need-by-header-requires
+by-header-requires : tie.Need-by_header-requires
 by-header-requires c κs =
-    let on = c.before.before in
-    let call = on.before in
-    let start = call.before.before.before.before in
-    party_in _ _ start.args.part.now start.args.log.now call.header-number.ensures on.if1.false c.before.seated.ensures c.if2.true
+    party_in _ _ c.args.part.now c.args.log.now c.header_number-number.ensures c.if-number-ne0.false c.seated.ensures c.if-seated.true
 
-returns-3 : tie.Need-returns-3
+returns-3 : tie.Need-returns-else-seated
 returns-3 c = search party_out
 
 pub replay_spec : {M : Type 1} → statement M

@@ -11,20 +11,20 @@ use Rattle.replay.proofs.Owning.{own_at, own_length, own_end}
 use Rattle.replay.proofs.own.own_cells.Statement.{statement}
 use Rattle.replay.proofs.own.own_cells.Tie as tie
 
-abbrev invariant-loop : tie.invariant-loop
+abbrev invariant-loop : tie.invariant-loop-r
 invariant-loop cells own₀ r₀ own r = Writing (map own_share (sevens 64 cells)) own₀ 64 r own
 
-abbrev decreases-loop : tie.decreases-loop
+abbrev decreases-loop : tie.decreases-loop-r
 decreases-loop cells own₀ r₀ own r = 64 - r
 
-loop-holds : tie.Need-loop-init invariant-loop decreases-loop
+loop-holds : tie.Need-loop-r-init invariant-loop decreases-loop
 loop-holds c = writing_start _ _ _
 
-loop-again : tie.Need-loop-preserved invariant-loop decreases-loop
-loop-again c = writing_more c.before.loop.invariant (omega arith) (own_length _) (search rules) (own_at _ _ (omega arith))
+loop-again : tie.Need-loop-r-preserved invariant-loop decreases-loop
+loop-again c = writing_more c.loop-r.invariant (omega arith) (own_length _) (search rules) (own_at _ _ (omega arith))
 
 returns : tie.Need-returns invariant-loop decreases-loop
-returns c = own_end _ c.before.loop.invariant (omega arith) (search rules)
+returns c = own_end _ c.loop-r.invariant (omega arith) (search rules)
 
 pub own_cells_spec : {M : Type 1} → statement M
 own_cells_spec =

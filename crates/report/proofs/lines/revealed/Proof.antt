@@ -5,10 +5,10 @@ use borrow.Author.Rules.{rules}
 use Rattle.report.proofs.lines.revealed.Statement.{statement}
 use Rattle.report.proofs.lines.revealed.Tie as tie
 
-abbrev invariant-loop : tie.invariant-loop
+abbrev invariant-loop : tie.invariant-loop-i
 invariant-loop field values xs i₀ i = i ≤ values
 
-abbrev decreases-loop : tie.decreases-loop
+abbrev decreases-loop : tie.decreases-loop-i
 decreases-loop field values xs i₀ i = values - i
 
 pub revealed_spec : {M : Type 1} → statement M

@@ -9,30 +9,30 @@ use native.Mathlib.Omega.{arith}
 use Rattle.report.proofs.lines.rows.Statement.{statement}
 use Rattle.report.proofs.lines.rows.Tie as tie
 
-abbrev invariant-loop : tie.invariant-loop
+abbrev invariant-loop : tie.invariant-loop-i
 invariant-loop text n many xs at₀ i₀ at i = (at ≡ i * n) × (i ≤ many) × (at ≤ length xs)
 
-abbrev decreases-loop : tie.decreases-loop
+abbrev decreases-loop : tie.decreases-loop-i
 decreases-loop text n many xs at₀ i₀ at i = many - i
 
 -- the next row ends in the list
 in_list : (n many at i l : ℕ) → at ≡ i * n → i < many → many * n ≤ l → at + n ≤ l
 in_list n many at i l e h k = let q : suc i * n ≤ many * n = mul-le-mul_right n h in omega arith
 
-row_in : (c : tie.In-loop invariant-loop decreases-loop)
-    → let a = c.before.before.before.before.args in c.before.loop.at + a.n ≤ length a.xs.now
-row_in c = in_list _ _ _ _ _ c.before.loop.invariant.0 (omega arith) c.before.before.before.before.requires
+row_in : (c : tie.In-loop-i invariant-loop decreases-loop)
+    → let a = c.args in c.loop-i.at + a.n ≤ length a.xs.now
+row_in c = in_list _ _ _ _ _ c.loop-i.invariant.0 (omega arith) c.requires
 
-add-list-line : tie.Need-overflow-add-list-line invariant-loop decreases-loop
+add-list-line : tie.Need-overflow_add-at invariant-loop decreases-loop
 add-list-line c = omega (arith, row_in c)
 
-part-list-line-end : tie.Need-slice-bounds-list-line-end invariant-loop decreases-loop
+part-list-line-end : tie.Need-slice_bounds-list_line-end invariant-loop decreases-loop
 part-list-line-end c = omega (arith, row_in c)
 
-add_at : tie.Need-overflow-add-at invariant-loop decreases-loop
+add_at : tie.Need-overflow_add-at-in-loop-i invariant-loop decreases-loop
 add_at c = omega (arith, row_in c.before.before)
 
-loop-again : tie.Need-loop-preserved invariant-loop decreases-loop
+loop-again : tie.Need-loop-i-preserved invariant-loop decreases-loop
 loop-again c = omega (arith, row_in c.before.before)
 
 pub rows_spec : {M : Type 1} → statement M

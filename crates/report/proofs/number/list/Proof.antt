@@ -6,10 +6,10 @@ use lib.ListN.{length}
 use Rattle.report.proofs.number.list.Statement.{statement}
 use Rattle.report.proofs.number.list.Tie as tie
 
-abbrev invariant-loop : tie.invariant-loop
+abbrev invariant-loop : tie.invariant-loop-i
 invariant-loop text xs i₀ i = i ≤ length xs
 
-abbrev decreases-loop : tie.decreases-loop
+abbrev decreases-loop : tie.decreases-loop-i
 decreases-loop text xs i₀ i = length xs - i
 
 pub list_spec : {M : Type 1} → statement M
