@@ -64,7 +64,7 @@ quotes (b ∷ c ∷ s) =
     choice (Finds (Quotes (b ∷ c ∷ s))) (eqb b DQUOTE)
     (λ e. rw (eqb-true b DQUOTE e) (choice (Finds (Quotes (DQUOTE ∷ c ∷ s))) (eqb c DQUOTE)
     (λ q. subst (λ z. Finds (Quotes (DQUOTE ∷ z ∷ s)) (with_byte DQUOTE (quoted s))) (sym (eqb-true c DQUOTE q))
-      (with_byte_lem (Quotes s) (Quotes (DQUOTE ∷ DQUOTE ∷ s)) DQUOTE (quoted s) (λ v rest. longer (DQUOTE ∷ DQUOTE ∷ []) (λ s. a_2_dquote)) (quotes s)))
+    (with_byte_lem (Quotes s) (Quotes (DQUOTE ∷ DQUOTE ∷ s)) DQUOTE (quoted s) (λ v rest. longer (DQUOTE ∷ DQUOTE ∷ []) (λ s. a_2_dquote)) (quotes s)))
     (λ _. begins _ [] nothing)))
     (λ _. choice (Finds (Quotes (b ∷ c ∷ s))) (alone b)
     (λ t. with_byte_lem (Quotes (c ∷ s)) (Quotes (b ∷ c ∷ s)) b (quoted (c ∷ s)) (λ v rest. longer (b ∷ []) (λ s. one_alone b (rw t tt))) (quotes (c ∷ s))) (λ _. tt))

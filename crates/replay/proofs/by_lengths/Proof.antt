@@ -21,12 +21,11 @@ returns-2 : tie.Need-returns-then-part-rows
 returns-2 c = search part_wrong
 
 by-script-requires : tie.Need-by_script-requires
-by-script-requires c κs =
-    (
-      all_ready _ c.args.head.now c.args.part.now c.args.log.now (c.requires.0, c.requires.1, c.requires.2) c.requires.3 c.requires.4 c.rows-rows.ensures c.if-head-f.false c.if-part-rows.false
-          c.all_below.ensures c.if-all_below.true,
-      c.requires.4,
-    )
+by-script-requires c κs = (
+  all_ready _ c.args.head.now c.args.part.now c.args.log.now (c.requires.0, c.requires.1, c.requires.2) c.requires.3 c.requires.4 c.rows-rows.ensures c.if-head-f.false c.if-part-rows.false
+      c.all_below.ensures c.if-all_below.true,
+  c.requires.4,
+)
 
 returns-4 : tie.Need-returns-else-all_below
 returns-4 c = search shares_wrong

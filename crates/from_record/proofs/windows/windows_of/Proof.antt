@@ -29,12 +29,11 @@ loop-again c =
     (rw u.ensures at (is_permitted c.permitted.ensures c.if-permitted.true)) (c.opening_of.ensures.0 ∙ u.ensures) c.opening_of.ensures.1
 
 returns : tie.Need-returns-else-permitted invariant-loop decreases-loop
-returns c =
-    (
-      refl,
-      windowing_stop c.loop-z.invariant c.requires.1 c.requires.2
-          (rw c.without_first-set.ensures at (not_permitted c.permitted.ensures c.if-permitted.false)),
-    )
+returns c = (
+  refl,
+  windowing_stop c.loop-z.invariant c.requires.1 c.requires.2
+      (rw c.without_first-set.ensures at (not_permitted c.permitted.ensures c.if-permitted.false)),
+)
 
 returns-2 : tie.Need-returns invariant-loop decreases-loop
 returns-2 c = (refl, windowing_end c.loop-z.invariant c.requires.1 c.requires.2 (omega arith))

@@ -50,11 +50,10 @@ added-requires c κs =
     turn_sums c.requires c.loop-i.invariant.1 c.loop-i-test.true c.of_mask-one.ensures hi (revealed-fits c.before.before.before.before.before.before.before.before.before) hm ht hl
 
 loop-again : tie.Need-loop-i-preserved invariant-loop decreases-loop
-loop-again c =
-    (
-      omega (arith, c.loop-i-test.true),
-      turned_more c.requires c.loop-i.invariant.1 c.loop-i-test.true c.sign_in.auto.cells c.sign_in.auto.log (c.added-spent.ensures ∙ ap (added (counts_of c.loop-i.spent)) c.of_mask-one.ensures) c.sign_in.ensures,
-    )
+loop-again c = (
+  omega (arith, c.loop-i-test.true),
+  turned_more c.requires c.loop-i.invariant.1 c.loop-i-test.true c.sign_in.auto.cells c.sign_in.auto.log (c.added-spent.ensures ∙ ap (added (counts_of c.loop-i.spent)) c.of_mask-one.ensures) c.sign_in.ensures,
+)
 
 returns : tie.Need-returns invariant-loop decreases-loop
 returns c = turned_end c.requires c.loop-i.invariant.1 (omega (arith, c.loop-i.invariant.0))

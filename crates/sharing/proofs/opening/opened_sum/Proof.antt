@@ -21,11 +21,10 @@ term-requires-4 c κs = point_in c.args.setting c.requires.0 3 (omega arith)
 
 -- the terms so far are at most (p − 1)² each
 two : (c : tie.After-term-2) → (c.term.result ≤ 4611686009837453316) × (c.term-2.result ≤ 4611686009837453316)
-two c =
-    (
-      term_most c.args.setting c.requires.0 c.args.row.shares c.requires.1 0 (omega arith) c.term.ensures,
-      term_most c.args.setting c.requires.0 c.args.row.shares c.requires.1 1 (omega arith) c.term-2.ensures,
-    )
+two c = (
+  term_most c.args.setting c.requires.0 c.args.row.shares c.requires.1 0 (omega arith) c.term.ensures,
+  term_most c.args.setting c.requires.0 c.args.row.shares c.requires.1 1 (omega arith) c.term-2.ensures,
+)
 
 three : (c : tie.After-term-3) → c.term-3.result ≤ 4611686009837453316
 three c =

@@ -33,12 +33,11 @@ slice-write-list c =
     omega (arith, writing_at_length c.loop-j.invariant.0 (omega (arith, length_recorded (setting_of c.args.setting) c.args.row.shares)) (omega arith))
 
 loop-again : tie.Need-loop-j-preserved invariant-loop decreases-loop
-loop-again c =
-    (
-      writing_at_more c.loop-j.invariant.0 (omega (arith, length_recorded (setting_of c.args.setting) c.args.row.shares)) (omega arith) (omega arith)
-          (number_at (setting_of c.args.setting) c.args.row.shares c.loop-j.j (omega arith) c.loop-j.invariant.1 c.record_number.ensures),
-      rw (c.loop-j.invariant.1, add-one) (shifted _ c.loop-j.j),
-    )
+loop-again c = (
+  writing_at_more c.loop-j.invariant.0 (omega (arith, length_recorded (setting_of c.args.setting) c.args.row.shares)) (omega arith) (omega arith)
+      (number_at (setting_of c.args.setting) c.args.row.shares c.loop-j.j (omega arith) c.loop-j.invariant.1 c.record_number.ensures),
+  rw (c.loop-j.invariant.1, add-one) (shifted _ c.loop-j.j),
+)
 
 same_length : tie.Need-shape_of-list invariant-loop decreases-loop
 same_length c =

@@ -15,11 +15,10 @@ may-run-requires : tie.Need-may_run-requires
 may-run-requires c κs = people_read _ c.header_number-number.ensures c.if-number-ne0.false c.read_numbers-h.ensures
 
 run-frame-of-requires : tie.Need-run_frame_of-requires
-run-frame-of-requires c κs =
-    (
-      search (rules, header_permitted),
-      set_permitted _ c.header_number-number.ensures c.if-number-ne0.false _ c.read_numbers-h.ensures c.may_run.ensures c.if-may_run.true,
-    )
+run-frame-of-requires c κs = (
+  search (rules, header_permitted),
+  set_permitted _ c.header_number-number.ensures c.if-number-ne0.false _ c.read_numbers-h.ensures c.may_run.ensures c.if-may_run.true,
+)
 
 pub read_run_header_spec : {M : Type 1} → statement M
 read_run_header_spec =
