@@ -45,6 +45,9 @@ pub mod Readings
 pub mod WholeScript
 pub mod Acceptance
 pub mod Written
+pub mod Begun
+pub mod Remaining
+pub mod Charging
 pub mod Formulas
 pub mod Performed
 pub mod Exactness

@@ -6,10 +6,10 @@ use lib.Seq.{length-take-le}
 use Rattle.call_cases.proofs.import_list.Statement.{statement}
 use Rattle.call_cases.proofs.import_list.Tie as tie
 
-array-borrow-prefix-seconds : tie.Need-array-borrow-prefix-seconds
+array-borrow-prefix-seconds : tie.Need-slice_bounds-seconds-end
 array-borrow-prefix-seconds c = search rules
 
-slice-aggregate-import-lent : tie.Need-slice-aggregate-import-lent
+slice-aggregate-import-lent : tie.Need-slice_bounds-import_lent-end
 slice-aggregate-import-lent c = sym (length-take-le _ _ (array-borrow-prefix-seconds c.before))
 
 pub import_list_spec : {M : Type 1} → statement M

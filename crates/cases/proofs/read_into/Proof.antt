@@ -6,10 +6,10 @@ use lib.Seq.{length-take-le}
 use Rattle.cases.proofs.read_into.Statement.{statement}
 use Rattle.cases.proofs.read_into.Tie as tie
 
-slice-relend-prefix-read-full : tie.Need-slice-relend-prefix-read-full
+slice-relend-prefix-read-full : tie.Need-slice_bounds-read_full-end
 slice-relend-prefix-read-full c = search rules
 
-slice-reshare-prefix-run-sheet : tie.Need-slice-reshare-prefix-run-sheet
+slice-reshare-prefix-run-sheet : tie.Need-slice_bounds-run_sheet-end
 slice-reshare-prefix-run-sheet c = search rules
 
 pub read_into_spec : {M : Type 1} → statement M

@@ -7,11 +7,11 @@ use native.Mathlib.Omega.{arith}
 use Rattle.entries.proofs.recover.Statement.{statement}
 use Rattle.entries.proofs.recover.Tie as tie
 
-slice-aggregate-recover-lists : tie.Need-slice-aggregate-recover-lists
-slice-aggregate-recover-lists c = sym (length-take-le _ _ (omega (arith, c.before.before.before.before.words.ensures, c.before.before.before.length_at.ensures)))
+slice-aggregate-recover-lists : tie.Need-slice_bounds-recover_lists-end
+slice-aggregate-recover-lists c = sym (length-take-le _ _ (omega (arith, c.words-given.ensures, c.length_at-many.ensures)))
 
-slice-aggregate-recover-lists-2 : tie.Need-slice-aggregate-recover-lists-2
-slice-aggregate-recover-lists-2 c = sym (length-take-le _ _ (omega (arith, c.before.before.before.words2.ensures, c.before.before.length-at2.ensures)))
+slice-aggregate-recover-lists-2 : tie.Need-slice_bounds-recover_lists-end-2
+slice-aggregate-recover-lists-2 c = sym (length-take-le _ _ (omega (arith, c.words-lent.ensures, c.length_at-room.ensures)))
 
 pub recover_spec : {M : Type 1} → statement M
 recover_spec =

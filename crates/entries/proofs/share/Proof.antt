@@ -7,11 +7,11 @@ use native.Mathlib.Omega.{arith}
 use Rattle.entries.proofs.share.Statement.{statement}
 use Rattle.entries.proofs.share.Tie as tie
 
-slice-aggregate-share-lists : tie.Need-slice-aggregate-share-lists
-slice-aggregate-share-lists c = sym (length-take-le _ _ (omega (arith, c.before.before.before.before.words.ensures, c.before.before.before.length_at.ensures)))
+slice-aggregate-share-lists : tie.Need-slice_bounds-share_lists-end
+slice-aggregate-share-lists c = sym (length-take-le _ _ (omega (arith, c.words-given.ensures, c.length_at-many.ensures)))
 
-slice-aggregate-share-lists-2 : tie.Need-slice-aggregate-share-lists-2
-slice-aggregate-share-lists-2 c = sym (length-take-le _ _ (omega (arith, c.before.before.before.words2.ensures, c.before.before.length-at2.ensures)))
+slice-aggregate-share-lists-2 : tie.Need-slice_bounds-share_lists-end-2
+slice-aggregate-share-lists-2 c = sym (length-take-le _ _ (omega (arith, c.words-lent.ensures, c.length_at-room.ensures)))
 
 pub share_spec : {M : Type 1} → statement M
 share_spec =

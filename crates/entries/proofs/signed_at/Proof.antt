@@ -8,9 +8,9 @@ use Rattle.entries.proofs.signed_at.Tie as tie
 
 returns : tie.Need-returns
 returns c =
-    let high = c.before.before.before.word.ensures in
-    let low = c.before.before.word2.ensures in
-    let up = c.before.word3.ensures in
+    let high = c.word.ensures in
+    let low = c.word-2.ensures in
+    let up = c.word-3.ensures in
     held_is (sfits_of c.signed.type_inv) ∙ c.signed.ensures ∙ rw (up, low, high)
 
 pub signed_at_spec : {M : Type 1} → statement M

@@ -7,8 +7,8 @@ use native.Mathlib.Omega.{arith}
 use Rattle.entries.proofs.sum.Statement.{statement}
 use Rattle.entries.proofs.sum.Tie as tie
 
-slice-aggregate-sum-list : tie.Need-slice-aggregate-sum-list
-slice-aggregate-sum-list c = sym (length-take-le _ _ (omega (arith, c.before.before.words.ensures, c.before.length_at.ensures)))
+slice-aggregate-sum-list : tie.Need-slice_bounds-sum_list-end
+slice-aggregate-sum-list c = sym (length-take-le _ _ (omega (arith, c.words-given.ensures, c.length_at-many.ensures)))
 
 pub sum_spec : {M : Type 1} → statement M
 sum_spec =

@@ -13,10 +13,10 @@ use Rattle.entries.specs.Words.{word_of}
 use Rattle.entries.proofs.words.Statement.{statement}
 use Rattle.entries.proofs.words.Tie as tie
 
-abbrev invariant-loop : tie.invariant-loop
+abbrev invariant-loop : tie.invariant-loop-j
 invariant-loop s i out₀ j₀ out j = (j ≤ 9) × (9 ≡ length out) × ((k : ℕ) → k < j → get_or out k 0 ≡ word_of s (i + k))
 
-abbrev decreases-loop : tie.decreases-loop
+abbrev decreases-loop : tie.decreases-loop-j
 decreases-loop s i out₀ j₀ out j = 9 - j
 
 -- one word more
@@ -28,19 +28,19 @@ put s i out j v l h before e k below = go (ℕ_discrete k j)
     go (yes q) = rw q (get_or-set_same out j v 0 (omega arith) ∙ e)
     go (no q) = get_or-set_other out j k v 0 q ∙ before k (omega arith)
 
-loop-holds : tie.Need-loop-init invariant-loop decreases-loop
+loop-holds : tie.Need-loop-j-init invariant-loop decreases-loop
 loop-holds c = (omega arith, refl, λ k h. absurd (omega arith))
 
-loop-again : tie.Need-loop-preserved invariant-loop decreases-loop
+loop-again : tie.Need-loop-j-preserved invariant-loop decreases-loop
 loop-again c =
-    let at = c.before.before.loop in
+    let at = c.loop-j in
     let v = c.word.result in
     (omega arith, at.invariant.1 ∙ sym (length-set at.out at.j v), put _ _ at.out at.j v at.invariant.1 (omega arith) at.invariant.2 c.word.ensures)
 
 returns : tie.Need-returns invariant-loop decreases-loop
 returns c =
-    let done = c.before.loop.invariant in
-    (is_tab 9 _ c.before.loop.out (sym done.1) (λ k h. done.2 k (omega arith)), done.1)
+    let done = c.loop-j.invariant in
+    (is_tab 9 _ c.loop-j.out (sym done.1) (λ k h. done.2 k (omega arith)), done.1)
 
 pub words_spec : {M : Type 1} → statement M
 words_spec =

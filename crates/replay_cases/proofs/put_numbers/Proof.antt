@@ -7,10 +7,10 @@ use lib.ListN.{length, length-set}
 use Rattle.replay_cases.proofs.put_numbers.Statement.{statement}
 use Rattle.replay_cases.proofs.put_numbers.Tie as tie
 
-abbrev invariant-loop : tie.invariant-loop
+abbrev invariant-loop : tie.invariant-loop-i
 invariant-loop log₀ s i₀ log i = length log ≡ length log₀
 
-abbrev decreases-loop : tie.decreases-loop
+abbrev decreases-loop : tie.decreases-loop-i
 decreases-loop log₀ s i₀ log i = length log₀ - i
 
 pub put_numbers_spec : {M : Type 1} → statement M

@@ -18,10 +18,10 @@ unfolding is_run
 run-from-21 zero k = absurd (k refl)
 run-from-21 (suc number) k = rw (eqb-suc-zero number)
 
-returns : tie.Need-returns
+returns : tie.Need-returns-then-answer-eq0
 returns c = search (run-at-0, rules)
 
-returns-2 : tie.Need-returns-2
+returns-2 : tie.Need-returns-else-answer-eq0
 returns-2 c = search (run-from-21, rules)
 
 pub is_run_spec : {M : Type 1} → statement M

@@ -6,17 +6,16 @@ use Rattle.sheet.proofs.Answers.{header_frame, long_read}
 use Rattle.table.proofs.run_lines.Statement.{statement}
 use Rattle.table.proofs.run_lines.Tie as tie
 
-shared-slice-read-wide : tie.Need-shared-slice-read-wide
+shared-slice-read-wide : tie.Need-bounds-s-0
 unfolding header_size
 shared-slice-read-wide c =
-    let l = long_read _ c.before.before.before.before.read-header.ensures c.before.before.f.given.1 in
+    let l = long_read _ c.read_header.ensures c.in-Sheet.is in
     search rules
 
 opened-requires : tie.Need-opened-requires
 opened-requires c κs =
-    let found = c.before.before.before.before in
-    let H = header_frame _ found.before.before.read-header.ensures found.f.given.1 in
-    rw H.n_is found.before.before.before.before.before.before.requires.0
+    let H = header_frame _ c.read_header.ensures c.in-Sheet.is in
+    rw H.n_is c.requires.0
 
 pub run_lines_spec : {M : Type 1} → statement M
 run_lines_spec =

@@ -10,11 +10,11 @@ use Rattle.cases.specs.Blanks.{blank}
 use Rattle.cases.proofs.outcome.blank.Statement.{statement}
 use Rattle.cases.proofs.outcome.blank.Tie as tie
 
-returns : tie.Need-returns
+returns : tie.Need-returns-then-set
 unfolding blank
 returns c = search rules
 
-returns-2 : tie.Need-returns-2
+returns-2 : tie.Need-returns-then-cell-eq0
 unfolding blank
 returns-2 c = search rules
 
@@ -23,8 +23,8 @@ unfolding blank
 not-blank zero h = absurd (h refl)
 not-blank (suc cell) h = refl
 
-returns-3 : tie.Need-returns-3
-returns-3 c = (rw c.before.if1.false (sym (not-blank _ c.if2.false)), omega arith)
+returns-3 : tie.Need-returns-else-cell-eq0
+returns-3 c = (rw c.if-set.false (sym (not-blank _ c.if-cell-eq0.false)), omega arith)
 
 pub blank_spec : {M : Type 1} → statement M
 blank_spec = tie.close (tie.spec returns returns-2 returns-3)

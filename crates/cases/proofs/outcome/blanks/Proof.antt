@@ -11,10 +11,10 @@ use Rattle.cases.specs.Blanks as Blanks
 use Rattle.cases.proofs.outcome.blanks.Statement.{statement}
 use Rattle.cases.proofs.outcome.blanks.Tie as tie
 
-abbrev invariant-loop : tie.invariant-loop
+abbrev invariant-loop : tie.invariant-loop-i
 invariant-loop cells marks found₀ i₀ found i = (found ≡ Blanks.blanks marks cells i) × (found ≤ i) × (i ≤ 448)
 
-abbrev decreases-loop : tie.decreases-loop
+abbrev decreases-loop : tie.decreases-loop-i
 decreases-loop cells marks found₀ i₀ found i = 448 - i
 
 none : (marks : List Bool) (cells : List ℕ) → 0 ≡ Blanks.blanks marks cells 0
@@ -29,16 +29,16 @@ one_more marks cells i j found x e f h = rw (h, e, f) refl
 at_end : (marks : List Bool) (cells : List ℕ) (i found : ℕ) → found ≡ Blanks.blanks marks cells i → i ≡ 448 → found ≡ Blanks.blanks marks cells 448
 at_end marks cells i found e h = rw (sym h) e
 
-loop-holds : tie.Need-loop-init invariant-loop decreases-loop
+loop-holds : tie.Need-loop-i-init invariant-loop decreases-loop
 loop-holds c = (none _ _, omega arith, omega arith)
 
-loop-again : tie.Need-loop-preserved invariant-loop decreases-loop
+loop-again : tie.Need-loop-i-preserved invariant-loop decreases-loop
 loop-again c =
-    let l = c.before.before.before.loop in
-    (one_more _ _ l.i _ _ _ l.invariant.0 c.blank.ensures.0 (omega arith), omega arith, omega arith)
+    let l = c.loop-i in
+    (one_more _ _ l.i _ _ _ l.invariant.0 c.blank-found.ensures.0 (omega arith), omega arith, omega arith)
 
 returns : tie.Need-returns invariant-loop decreases-loop
-returns c = at_end _ _ _ _ c.before.loop.invariant.0 (omega arith)
+returns c = at_end _ _ _ _ c.loop-i.invariant.0 (omega arith)
 
 pub blanks_spec : {M : Type 1} → statement M
 blanks_spec =

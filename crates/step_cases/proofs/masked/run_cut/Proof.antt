@@ -6,15 +6,14 @@ use native.Mathlib.Omega.{arith}
 use Rattle.step_cases.proofs.masked.run_cut.Statement.{statement}
 use Rattle.step_cases.proofs.masked.run_cut.Tie as tie
 
-run-low-requires : tie.Need-run-low-requires
+run-low-requires : tie.Need-run_low-requires
 run-low-requires c κs =
-    let l = c.before.before.before.before in
-    let P = l.before.before.requires in (
+    let P = c.requires in (
       rw P.1 P.0,
-      sym l.low.ensures,
-      omega (arith, c.before.before.if2),
-      omega (arith, c.before.before.before.if1, P.1),
-      omega (arith, c.if3),
+      sym c.low-m.ensures,
+      omega (arith, c.if-m-eq0),
+      omega (arith, c.if-k-m, P.1),
+      omega (arith, c.if-setting-m),
     )
 
 pub run_cut_spec : {M : Type 1} → statement M

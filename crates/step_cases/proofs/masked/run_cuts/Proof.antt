@@ -5,17 +5,15 @@ use native.Mathlib.Omega.{arith}
 use Rattle.step_cases.proofs.masked.run_cuts.Statement.{statement}
 use Rattle.step_cases.proofs.masked.run_cuts.Tie as tie
 
-run-cut-requires : tie.Need-run-cut-requires
+run-cut-requires : tie.Need-run_cut-requires
 run-cut-requires c κs =
-    let t = c.before.before.before.before in
-    let i = t.before.before.before in
-    let P = i.before.before.before.requires in
-    let w = c.before.before.width.ensures in (
+    let P = c.requires in
+    let w = c.width-k.ensures in (
       record {
         placed = P.2;
-        operand = omega (arith, i.if1, P.2.words);
-        mask = omega (arith, c.before.before.before.if2, t.times.ensures, P.2.mask);
-        some = omega (arith, c.before.if3);
+        operand = omega (arith, c.if-s-setting, P.2.words);
+        mask = omega (arith, c.if-s-at, c.times.ensures, P.2.mask);
+        some = omega (arith, c.if-k-eq0);
         most = w.1;
         power = rw P.1 w.2;
       },

@@ -5,10 +5,9 @@ use native.Mathlib.Omega.{arith}
 use Rattle.step_cases.proofs.masked.run_low.Statement.{statement}
 use Rattle.step_cases.proofs.masked.run_low.Tie as tie
 
-cut-row-requires : tie.Need-cut-row-requires
+cut-row-requires : tie.Need-cut_row-row-requires
 cut-row-requires c κs =
-    let t = c.before.before.before.before.before in
-    let P = t.before.before.before.before.requires in
+    let P = c.requires in
     let M = P.0 in
     rw P.1
     (record {
@@ -20,8 +19,8 @@ cut-row-requires c κs =
       mask = M.mask;
       room = record {
         fitting = M.placed.fitting;
-        triples = omega (arith, c.before.before.before.before.if1, t.times.ensures, M.placed.triple);
-        openings = omega (arith, c.before.before.if2, c.before.before.before.times2.ensures, M.placed.log);
+        triples = omega (arith, c.if-s-at, c.times.ensures, M.placed.triple);
+        openings = omega (arith, c.if-n-times-gt1225, c.times-2.ensures, M.placed.log);
       };
     })
 

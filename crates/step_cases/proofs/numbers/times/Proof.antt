@@ -6,7 +6,7 @@ use native.Mathlib.Omega.{arith}
 use Rattle.step_cases.proofs.numbers.times.Statement.{statement}
 use Rattle.step_cases.proofs.numbers.times.Tie as tie
 
-mul-result : tie.Need-overflow-mul-result
+mul-result : tie.Need-overflow_mul-result
 mul-result c = record { fits = omega (arith, mul-le-mul {n₂ = 100} {m₂ = 100} c.requires.0 c.requires.1) }
 
 returns : tie.Need-returns

@@ -15,13 +15,13 @@ within f w k h e =
     let b : k ≤ largest_k f = omega arith in
     (e, omega (arith, (fields f h).k_most), omega (arith, pow_mono {i = k} {j = largest_k f} b, (fields f h).range_fits))
 
-returns : tie.Need-returns
+returns : tie.Need-returns-then-k-most
 returns c =
-    within _ _ _ c.before.before.before.before.requires.1 (omega (arith, c.before.before.word.ensures, c.before.largest-k.ensures))
+    within _ _ _ c.requires.1 (omega (arith, c.word-k.ensures, c.largest_k-most.ensures))
 
-returns-2 : tie.Need-returns-2
+returns-2 : tie.Need-returns-else-k-most
 returns-2 c =
-    within _ _ _ c.before.before.before.before.requires.1 (omega (arith, c.before.before.word.ensures, c.before.largest-k.ensures))
+    within _ _ _ c.requires.1 (omega (arith, c.word-k.ensures, c.largest_k-most.ensures))
 
 pub width_spec : {M : Type 1} → statement M
 width_spec = tie.close (tie.spec (λ c κs. search rules) (λ c κs. search (rules, below_four)) returns returns-2)

@@ -5,12 +5,11 @@ use native.Mathlib.Omega.{arith}
 use Rattle.step_cases.proofs.step.compare_cells.Statement.{statement}
 use Rattle.step_cases.proofs.step.compare_cells.Tie as tie
 
-comparison-requires : tie.Need-comparison-requires
+comparison-requires : tie.Need-comparison-row-requires
 comparison-requires c κs =
-    let t = c.before.before in
-    let C = t.before.before.before.before.before.requires.0 in (
-      record { some = C.some; there = t.before.before.before.before.before.requires.1 },
-      record { fitting = C.placed.fitting; triples = C.triples; openings = omega (arith, C.placed.log, c.before.if1, t.times.ensures) },
+    let C = c.requires.0 in (
+      record { some = C.some; there = c.requires.1 },
+      record { fitting = C.placed.fitting; triples = C.triples; openings = omega (arith, C.placed.log, c.if-times-gt420, c.times.ensures) },
     )
 
 pub compare_cells_spec : {M : Type 1} → statement M

@@ -14,11 +14,11 @@ none masks l e = rw e (refl, omega arith)
 one : (masks l : ℕ) → (masks ≡ 0 → ⊥) → (l ≡ mask_rows masks l) × (l ≤ l)
 one masks l e = rw (ne_eqb masks 0 e) (refl, omega arith)
 
-returns : tie.Need-returns
-returns c = none _ _ c.if1.true
+returns : tie.Need-returns-then-masks-eq0
+returns c = none _ _ c.if-masks-eq0.true
 
-returns-2 : tie.Need-returns-2
-returns-2 c = one _ _ c.if1.false
+returns-2 : tie.Need-returns-else-masks-eq0
+returns-2 c = one _ _ c.if-masks-eq0.false
 
 pub mask_rows_spec : {M : Type 1} → statement M
 mask_rows_spec = tie.close (tie.spec returns returns-2)

@@ -5,10 +5,10 @@ use borrow.Author.Rules.{rules}
 use Rattle.step_cases.proofs.step.run_case.Statement.{statement}
 use Rattle.step_cases.proofs.step.run_case.Tie as tie
 
-setting-of-requires : tie.Need-setting-of-requires
+setting-of-requires : tie.Need-setting_of-requires
 setting-of-requires c κs = (search (rules, setting_field), search (rules, setting_people))
 
-run-rows-requires : tie.Need-run-rows-requires
+run-rows-requires : tie.Need-run_rows-requires
 run-rows-requires c κs = (search rules, search (rules, setting_field), search rules, search rules)
 
 pub run_case_spec : {M : Type 1} → statement M

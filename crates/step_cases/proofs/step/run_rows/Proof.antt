@@ -5,12 +5,11 @@ use native.Mathlib.Omega.{arith}
 use Rattle.step_cases.proofs.step.run_rows.Statement.{statement}
 use Rattle.step_cases.proofs.step.run_rows.Tie as tie
 
-run-step-requires : tie.Need-run-step-requires
+run-step-requires : tie.Need-run_step-requires
 run-step-requires c κs =
-    let p = c.before.before.before.before.before.before in
-    let P = p.before.before.requires in
-    let h = p.places_of.ensures in
-    (P.1, P.3, record { fitting = P.2; words = P.0; mask = omega (arith, c.if1, h.0); triple = omega (arith, c.if1); log = h.2 })
+    let P = c.requires in
+    let h = c.places_of-at.ensures in
+    (P.1, P.3, record { fitting = P.2; words = P.0; mask = omega (arith, c.if-s-end, h.0); triple = omega (arith, c.if-s-end); log = h.2 })
 
 pub run_rows_spec : {M : Type 1} → statement M
 run_rows_spec =

@@ -28,16 +28,13 @@ fits f n t u P ep el O =
       opens = rw ep O;
     }
 
-opening-of-requires : tie.Need-opening-of-requires
+opening-of-requires : tie.Need-opening_of-opening-requires
 opening-of-requires c κs =
-    let s = c.before.before.before.before in
-    (s.requires.0, s.requires.1, all _ _ s.requires.1 c.before.everyone.ensures c.wide.ensures.0)
+    (c.requires.0, c.requires.1, all _ _ c.requires.1 c.everyone.ensures c.wide-present.ensures.0)
 
 returns : tie.Need-returns
 returns c =
-    let m = c.before.before.before.before in
-    let s = m.before in
-    (fits _ _ _ s.requires.0 s.requires.1 m.modulus.ensures.0 c.before.before.before.bits.ensures c.Opening-of.ensures.1, m.modulus.ensures.0)
+    (fits _ _ _ c.requires.0 c.requires.1 c.modulus-p.ensures.0 c.bits-l.ensures c.opening_of-opening.ensures.1, c.modulus-p.ensures.0)
 
 pub setting_of_spec : {M : Type 1} → statement M
 setting_of_spec =
