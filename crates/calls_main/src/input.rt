@@ -2,7 +2,7 @@
 ghost use Rattle.std.specs.Prelude.{◌+◌, ◌≤◌, length};
 ghost use Rattle.calls_main.specs.Reading.{Within};
 
-use libc::STDIN_FILENO;
+use std::io::{Read, Stdin};
 
 // All bytes up to the input's end; so many that the room is filled, so that the end was not seen; or a read that failed.
 #[derive(Clone, Copy)]
@@ -19,31 +19,36 @@ struct Part {
     failed: bool,
 }
 
-fn read_part(part: &mut [u8]) -> Part
+fn read_part(mut stdin: Stdin, part: &mut [u8]) -> Part
     ensures { result.bytes ≤ length part.old }
 {
-    let got = libc::read(STDIN_FILENO, part);
-    Part {
-        bytes: io::count(got, part),
-        failed: got < 0,
+    match stdin.read(part) {
+        Ok(bytes) => Part {
+            bytes,
+            failed: false,
+        },
+        Err(_) => Part {
+            bytes: 0,
+            failed: true,
+        },
     }
 }
 
 // One read, into the list from a place on.
-fn read_from(list: &mut [u8], done: usize) -> Part
+fn read_from(stdin: Stdin, list: &mut [u8], done: usize) -> Part
     requires { done ≤ length list.old }
     ensures { done + result.bytes ≤ length list.old }
 {
-    read_part(&mut list[done..])
+    read_part(stdin, &mut list[done..])
 }
 
 // A read that brings no byte is the input's end, unless it failed.
-pub fn read_all(list: &mut [u8]) -> Input
+pub fn read_all(stdin: Stdin, list: &mut [u8]) -> Input
     ensures { Within (length list.old) result }
 {
     let mut done = 0;
     while done < list.len() {
-        let part = read_from(list, done);
+        let part = read_from(stdin, list, done);
         if part.failed {
             return Input::Failed;
         }

@@ -2,7 +2,11 @@
 ghost use Rattle.std.specs.Prelude.{◌≤◌, length};
 
 use calls::Imported;
-use libc::{STDERR_FILENO, STDOUT_FILENO};
+
+// The file descriptors of standard output and of standard error.
+const STDOUT_FILENO: i32 = 1;
+
+const STDERR_FILENO: i32 = 2;
 
 // Says what went wrong, and answers the exit status.
 fn complain(text: &[u8]) -> i32 {

@@ -7,10 +7,10 @@ use lib.ListN.{length, length-set}
 use Rattle.column_cases.proofs.number_places.Statement.{statement}
 use Rattle.column_cases.proofs.number_places.Tie as tie
 
-abbrev invariant-loop : tie.invariant-loop
+abbrev invariant-loop : tie.invariant-loop-i
 invariant-loop xs₀ next₀ i₀ xs next i = length xs ≡ length xs₀
 
-abbrev decreases-loop : tie.decreases-loop
+abbrev decreases-loop : tie.decreases-loop-i
 decreases-loop xs₀ next₀ i₀ xs next i = length xs₀ - i
 
 pub number_places_spec : {M : Type 1} → statement M

@@ -6,10 +6,10 @@ use lib.ListN.{length}
 use Rattle.column_cases.proofs.put_bytes.Statement.{statement}
 use Rattle.column_cases.proofs.put_bytes.Tie as tie
 
-abbrev invariant-loop : tie.invariant-loop
+abbrev invariant-loop : tie.invariant-loop-i
 invariant-loop xs i₀ i = i ≤ length xs
 
-abbrev decreases-loop : tie.decreases-loop
+abbrev decreases-loop : tie.decreases-loop-i
 decreases-loop xs i₀ i = length xs - i
 
 pub put_bytes_spec : {M : Type 1} → statement M

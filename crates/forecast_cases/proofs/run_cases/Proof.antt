@@ -6,10 +6,10 @@ use lib.ListN.{length}
 use Rattle.forecast_cases.proofs.run_cases.Statement.{statement}
 use Rattle.forecast_cases.proofs.run_cases.Tie as tie
 
-abbrev invariant-loop : tie.invariant-loop
+abbrev invariant-loop : tie.invariant-loop-at
 invariant-loop s at₀ at = at ≤ length s
 
-abbrev decreases-loop : tie.decreases-loop
+abbrev decreases-loop : tie.decreases-loop-at
 decreases-loop s at₀ at = length s - at
 
 pub run_cases_spec : {M : Type 1} → statement M

@@ -7,10 +7,10 @@ use Rattle.script.proofs.Lines.{closer}
 use Rattle.forecast.proofs.meaning.stops_at.Statement.{statement}
 use Rattle.forecast.proofs.meaning.stops_at.Tie as tie
 
-abbrev invariant-loop : tie.invariant-loop
+abbrev invariant-loop : tie.invariant-loop-next
 invariant-loop f script at₀ at = Unit {0}
 
-abbrev decreases-loop : tie.decreases-loop
+abbrev decreases-loop : tie.decreases-loop-next
 decreases-loop f script at₀ at = length script - at
 
 pub stops_at_spec : {M : Type 1} → statement M

@@ -11,24 +11,24 @@ use Rattle.forecast.proofs.Registers.{unset_start, unset_more, unset_here, unset
 use Rattle.forecast.proofs.needs.first_unset.Statement.{statement}
 use Rattle.forecast.proofs.needs.first_unset.Tie as tie
 
-abbrev invariant-loop : tie.invariant-loop
+abbrev invariant-loop : tie.invariant-loop-i
 invariant-loop b w marks i₀ i = (i ≤ w) × (first_unset marks (rest b w i) ≡ first_unset marks (from b w))
 
-abbrev decreases-loop : tie.decreases-loop
+abbrev decreases-loop : tie.decreases-loop-i
 decreases-loop b w marks i₀ i = w - i
 
-loop-again : tie.Need-loop-preserved invariant-loop decreases-loop
+loop-again : tie.Need-loop-i-preserved invariant-loop decreases-loop
 loop-again c =
-    let l = c.before.before.loop in
-    (omega arith, unset_more _ _ _ l.i (omega arith) c.if1.true ∙ l.invariant.1)
+    let l = c.loop-i in
+    (omega arith, unset_more _ _ _ l.i (omega arith) c.if-marks-b.true ∙ l.invariant.1)
 
-returns : tie.Need-returns invariant-loop decreases-loop
+returns : tie.Need-returns-else-marks-b invariant-loop decreases-loop
 returns c =
-    let l = c.before.before.loop in
-    unset_here _ _ _ l.i (omega arith) c.if1.false ∙ l.invariant.1
+    let l = c.loop-i in
+    unset_here _ _ _ l.i (omega arith) c.if-marks-b.false ∙ l.invariant.1
 
-returns-2 : tie.Need-returns-2 invariant-loop decreases-loop
-returns-2 c = unset_end _ _ _ c.before.loop.i (omega arith) ∙ c.before.loop.invariant.1
+returns-2 : tie.Need-returns invariant-loop decreases-loop
+returns-2 c = unset_end _ _ _ c.loop-i.i (omega arith) ∙ c.loop-i.invariant.1
 
 pub first_unset_spec : {M : Type 1} → statement M
 first_unset_spec =

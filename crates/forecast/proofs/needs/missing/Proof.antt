@@ -5,7 +5,7 @@ use Rattle.script.proofs.Lines.{in_range_lem}
 use Rattle.forecast.proofs.needs.missing.Statement.{statement}
 use Rattle.forecast.proofs.needs.missing.Tie as tie
 
-cost-of-requires : tie.Need-cost-of-requires
+cost-of-requires : tie.Need-cost_of-need-requires
 cost-of-requires c κs = search (rules, in_range_lem)
 
 pub missing_spec : {M : Type 1} → statement M

@@ -1,5 +1,4 @@
-// Program `calls`: the seconds of the calls in the list on standard input, one to a line, and how the list ended. It is a library with one function
-// that the linker takes as main, since a program of Rattle's own has no exit status: programs/link.
+// Program `calls`: the seconds of the calls in the list on standard input, one to a line, and how the list ended.
 #![tactic(auto)]
 
 mod input;
@@ -10,6 +9,8 @@ ghost use Rattle.calls_main.specs.Reading.{Within, Ample};
 
 use calls::Imported;
 use input::{Input, read_all};
+use std::io::Stdin;
+use std::process::ExitCode;
 
 // The longest list that is read whole has 524,288 bytes. Room for one more shows that none follows.
 const BYTES_READ: usize = 524289;
@@ -17,15 +18,22 @@ const BYTES_READ: usize = 524289;
 // No list that is read whole has more calls: one takes five bytes at least, as ,0,,0 does, and two for a line break before the next.
 const CALLS: usize = 74898;
 
-// Answers the exit status: 0, or 1 where the list was not read whole or not all lines were written.
-#[unsafe(no_mangle)]
-pub extern "C" fn calls_main() -> i32 {
-    let mut list = [0u8; BYTES_READ];
-    read_list(&mut list)
+fn main(rt: HostRuntime) -> ExitCode {
+    if calls_main(rt.stdin()) == 0 {
+        ExitCode::SUCCESS
+    } else {
+        ExitCode::FAILURE
+    }
 }
 
-fn read_list(list: &mut [u8; BYTES_READ]) -> i32 {
-    let input = read_all(list);
+// Answers the exit status: 0, or 1 where the list was not read whole or not all lines were written.
+pub fn calls_main(stdin: Stdin) -> i32 {
+    let mut list = [0u8; BYTES_READ];
+    read_list(stdin, &mut list)
+}
+
+fn read_list(stdin: Stdin, list: &mut [u8; BYTES_READ]) -> i32 {
+    let input = read_all(stdin, list);
     import_read(list, input)
 }
 
