@@ -9,8 +9,8 @@ use Rattle.jundrethol.proofs.jundrethol_encode.Tie as tie
 
 returns : tie.Need-returns
 returns c =
-    let e = c.encode.ensures in
-    let is = held_is c.before.ranges.a in
+    let e = c.encode-answer.ensures in
+    let is = held_is c.ranges.a in
     (e.0 ∙ ap (encode_number _ _) is, e.1 ∙ ap (encode_value _ _) is)
 
 pub jundrethol_encode_spec : {M : Type 1} → statement M

@@ -8,26 +8,26 @@ use native.Mathlib.Omega.{arith}
 use Rattle.jundrethol.proofs.lent.put_counts.Statement.{statement}
 use Rattle.jundrethol.proofs.lent.put_counts.Tie as tie
 
-abbrev invariant-loop : tie.invariant-loop
+abbrev invariant-loop : tie.invariant-loop-j
 invariant-loop part₀ place counts count j₀ part j = Lending counts part₀ count j part
 
-abbrev decreases-loop : tie.decreases-loop
+abbrev decreases-loop : tie.decreases-loop-j
 decreases-loop part₀ place counts count j₀ part j = count - j
 
-loop-holds : tie.Need-loop-init invariant-loop decreases-loop
-loop-holds c = lending_start _ _ _ 6 refl c.least.ensures
+loop-holds : tie.Need-loop-j-init invariant-loop decreases-loop
+loop-holds c = lending_start _ _ _ 6 refl c.least-count.ensures
 
-slice-write-part : tie.Need-slice-write-part invariant-loop decreases-loop
-slice-write-part c = let L = c.before.loop.invariant in omega (arith, lending_length L, L.places)
+slice-write-part : tie.Need-bounds-part-j invariant-loop decreases-loop
+slice-write-part c = let L = c.loop-j.invariant in omega (arith, lending_length L, L.places)
 
-loop-again : tie.Need-loop-preserved invariant-loop decreases-loop
-loop-again c = lending_more c.before.loop.invariant (omega arith) refl
+loop-again : tie.Need-loop-j-preserved invariant-loop decreases-loop
+loop-again c = lending_more c.loop-j.invariant (omega arith) refl
 
-same_length : tie.Need-same-length invariant-loop decreases-loop
-same_length c = lending_length c.before.loop.invariant
+same_length : tie.Need-shape_of-part invariant-loop decreases-loop
+same_length c = lending_length c.loop-j.invariant
 
 returns : tie.Need-returns invariant-loop decreases-loop
-returns c = lending_end c.before.loop.invariant (omega arith)
+returns c = lending_end c.loop-j.invariant (omega arith)
 
 pub put_counts_spec : {M : Type 1} → statement M
 put_counts_spec =
