@@ -2,7 +2,7 @@
  * its own shares and the record of a run, calls from an exchange's list, and sheets turned so that each party's shares stand together, for C on
  * x86-64 Linux.
  *
- * Link target/staticlib/libjundrethol.a, which `rt staticlib jundrethol` writes. Each function is proved to give exactly the answer that its
+ * Link target/staticlib/libjundrethol.a, which `bash programs/build jundrethol` writes. Each function is proved to give exactly the answer that its
  * contract in crates/jundrethol/src/lib.rt fixes, to end, and not to fault, whatever the numbers, the bytes and the lengths are. Nothing is
  * allocated, and nothing is kept for the next call, so several threads may call at once.
  *

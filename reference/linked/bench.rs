@@ -37,7 +37,7 @@ line has the median of the rounds' own ratios. The last job is the library's rep
 library's own run of that sheet. Both sides run in the same process, in turn, after their answers
 and buffers were found equal. Exits with 1 if they are not, with 2 if the arguments are wrong.
 
-Build it with bash reference/link, after rt staticlib jundrethol.";
+Build it with bash reference/link, after bash programs/build jundrethol.";
 
 const ROUNDS: usize = 2001;
 

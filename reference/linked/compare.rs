@@ -58,7 +58,7 @@ replays of the sheet's run with the columns of the library's run, with the drawn
 permitted. The last line tells how many were compared and how many differ. Exits with 1 if
 any does, with 2 if the arguments are wrong.
 
-Build it with bash reference/link, after rt staticlib jundrethol.";
+Build it with bash reference/link, after bash programs/build jundrethol.";
 
 /// How many calls of small entries are drawn for a sheet besides one of sum.
 const ENTRIES: u64 = 4;

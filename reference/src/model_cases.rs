@@ -37,32 +37,32 @@ pub fn text(name: &str) -> Option<String> {
     match name {
         "SheetCases" => Some(file(
             "The paper, \"Refused because of the input\": sheets that 1 to 8 refuse, and the last that they let through.",
-            ("Case", "sheetCases"),
+            ("Case", "sheet_cases"),
             sheet_rows(&sheets::sheets(), sheet_row),
         )),
         "ScriptCases" => Some(file(
             "The paper, \"Refused because of the input\": scripts that 9 to 11 refuse, and the last that they let through.",
-            ("Case", "scriptCases"),
+            ("Case", "script_cases"),
             sheet_rows(&sheets::scripts(), sheet_row),
         )),
         "RunCases" => Some(file(
             "The paper, \"Steps\" and \"Refused because of the state\": the commands that take no mask, and 21 to 26.",
-            ("Case", "runCases"),
+            ("Case", "run_cases"),
             sheet_rows(&sheets::runs(), sheet_row),
         )),
         "MaskCases" => Some(file(
             "The paper, \"Steps\": the commands that take a mask, with the rows that they open.",
-            ("Case", "maskCases"),
+            ("Case", "mask_cases"),
             sheet_rows(&sheets::masked(), sheet_row),
         )),
         "PresentCases" => Some(file(
             "Request 5, \"A firm's machine is down\": runs with absent parties, and the sets that 12 refuses.",
-            ("Case", "presentCases"),
+            ("Case", "present_cases"),
             sheet_rows(&sheets::present(), present_row),
         )),
         "EntryCases" => Some(file(
             "The paper, \"Fields and parties\", and request 4, \"Sum first, reduce after\": calls of the small entries, and what they answer.",
-            ("Entry", "entryCases"),
+            ("Entry", "entry_cases"),
             calls::all()
                 .iter()
                 .map(|(says, call)| (says.to_string(), vec![entry(call)]))
@@ -70,7 +70,7 @@ pub fn text(name: &str) -> Option<String> {
         )),
         "CallCases" => Some(file(
             "The request \"Calls from the exchange's own list\": short lists, and what their import leaves.",
-            ("CallCase", "callCases"),
+            ("CallCase", "call_cases"),
             lists::all().iter().map(list_row).collect(),
         )),
         "ColumnCases" => Some(column_table()),
@@ -83,7 +83,7 @@ pub fn text(name: &str) -> Option<String> {
 fn column_table() -> String {
     file(
         "Request 3, \"One firm's shares together\": short inputs, and what turning them over and back leaves.",
-        ("Entry", "columnCases"),
+        ("Entry", "column_cases"),
         turns::all().iter().map(turn_row).collect(),
     )
 }
@@ -91,7 +91,7 @@ fn column_table() -> String {
 fn forecast_table() -> String {
     file(
         "Request 6, \"Will this deal last?\": short headers with their scripts, and the number and the place that are forecast.",
-        ("ForecastCase", "forecastCases"),
+        ("ForecastCase", "forecast_cases"),
         heads::all().iter().map(forecast_row).collect(),
     )
 }
@@ -99,7 +99,7 @@ fn forecast_table() -> String {
 fn replay_table() -> String {
     file(
         "Request 8, \"A firm replays its own column\": small replays, and the number, place, counts and cells that they leave.",
-        ("Case", "replayCases"),
+        ("Case", "replay_cases"),
         replays::all().iter().map(replay_row).collect(),
     )
 }
@@ -115,26 +115,21 @@ fn file(subject: &str, (kind, name): (&str, &str), rows: Vec<Row>) -> String {
         "-- {subject}\n\
          -- The reference writes this table (reference model-cases).\n\
          -- Assumes nothing.\n\
-         use mathlib.Core.List.{{List, [], _∷_{}}}\n",
-        if has_word(&code, "++") { ", _++_" } else { "" }
+         use Rattle.std.specs.Prelude.{{List, [], ◌∷◌{}{}}}\n",
+        if has_word(&code, "++") { ", ◌++◌" } else { "" },
+        used(&["pos", "neg_ℤ", "replicate"]),
     );
-    if has_word(&code, "pos") {
-        text += &format!("use lib.IntN.{{pos{}}}\n", used(&["negℤ"]));
-    }
-    if has_word(&code, "replicate") {
-        text += "use lib.ListN.{replicate}\n";
-    }
     if has_word(&code, "from") {
-        text += "use Rattle·algebra.specs.Lists.{from}\n";
+        text += "use Rattle.algebra.specs.Lists.{from}\n";
     }
-    if has_word(&code, "shareBytes") {
-        text += "use Rattle·model·specs.specs.Sheet.{shareBytes}\n";
+    if has_word(&code, "share_bytes") {
+        text += "use Rattle.model.specs.Sheet.{share_bytes}\n";
     }
     let forms = used(&[
         "ran",
-        "ranBy",
+        "ran_by",
         "stopped",
-        "stoppedBy",
+        "stopped_by",
         "scripted",
         "shared",
         "recovered",
@@ -142,12 +137,12 @@ fn file(subject: &str, (kind, name): (&str, &str), rows: Vec<Row>) -> String {
         "encoded",
         "decoded",
         "took",
-        "asColumns",
-        "asSheet",
-        "forecastOf",
-        "replayOf",
+        "as_columns",
+        "as_sheet",
+        "forecast_of",
+        "replay_of",
     ]);
-    text += &format!("use Rattle·model·specs.specs.CaseForms.{{{kind}{forms}}}\n\n");
+    text += &format!("use Rattle.model.specs.CaseForms.{{{kind}{forms}}}\n\n");
     text + &format!("unfoldable pub {name} : List {kind}\n{name} =\n{body}    ∷ []\n")
 }
 
@@ -230,9 +225,9 @@ fn present_row(held: &Held) -> Vec<String> {
     let left = held.left();
     let present = held.present;
     if is_untouched(held, &left) {
-        stopped(&format!("stoppedBy {present}"), held, &left)
+        stopped(&format!("stopped_by {present}"), held, &left)
     } else {
-        ran(&format!("ranBy {present}"), held, &left)
+        ran(&format!("ran_by {present}"), held, &left)
     }
 }
 
@@ -333,8 +328,8 @@ fn turn_row(held: &turns::Held) -> Row {
     let (lent, number) = (held.case.lent, left.number);
     let (input, output) = (list(&held.case.input), output(&left.output));
     let way = match held.case.way {
-        Way::ToColumns => "asColumns",
-        Way::ToSheet => "asSheet",
+        Way::ToColumns => "as_columns",
+        Way::ToSheet => "as_sheet",
     };
     let row = vec![
         format!("{way} {input}"),
@@ -347,7 +342,7 @@ fn turn_row(held: &turns::Held) -> Row {
 fn forecast_row(held: &heads::Held) -> Row {
     let (number, place) = forecast(&held.head);
     let head = list(&held.head);
-    let row = vec![format!("forecastOf {head} {number} {place}")];
+    let row = vec![format!("forecast_of {head} {number} {place}")];
     (held.says.clone(), row)
 }
 
@@ -363,7 +358,7 @@ fn replay_row(held: &replays::Held) -> Row {
     let (header, script) = (list(header), list(script));
     let (part, record) = (part_of(part), list(record));
     let row = vec![
-        format!("replayOf {party} {header} {script}"),
+        format!("replay_of {party} {header} {script}"),
         format!("{part} {record}"),
         replayed(&held.case.answer()),
     ];
@@ -377,7 +372,7 @@ fn part_of(part: &[u8]) -> String {
         return list(part);
     }
     let shares: Vec<u32> = part.chunks_exact(4).map(word).collect();
-    format!("(shareBytes {})", list(&shares))
+    format!("(share_bytes {})", list(&shares))
 }
 
 /// Number, place and counts; the register and the share of each cell that is not 0.
@@ -447,7 +442,7 @@ fn entry(call: &Case) -> String {
 
 fn signed(a: i128) -> String {
     if a < 0 {
-        format!("(negℤ (pos {}))", -a)
+        format!("(neg_ℤ (pos {}))", -a)
     } else {
         format!("(pos {a})")
     }
@@ -542,14 +537,14 @@ mod tests {
         assert!(text("EntryCases").unwrap().contains(row));
         let row = " ∷ []) 0\n    (pos 9223372026117357570)\n";
         assert!(text("EntryCases").unwrap().contains(row));
-        let row = "    -- 1: no byte, to the sheet\n    ∷ asSheet [] 12 1 (from 100 12)\n";
+        let row = "    -- 1: no byte, to the sheet\n    ∷ as_sheet [] 12 1 (from 100 12)\n";
         assert!(text("ColumnCases").unwrap().contains(row));
-        let row = "    -- 1: no byte\n    ∷ forecastOf [] 1 0\n";
+        let row = "    -- 1: no byte\n    ∷ forecast_of [] 1 0\n";
         assert!(text("ForecastCases").unwrap().contains(row));
         let row = "\
     -- the paper's printed run, party 2
-    ∷ replayOf 2 (0 ∷ 3 ∷ 1 ∷ 2 ∷ 0 ∷ 0 ∷ 0 ∷ 1 ∷ 0 ∷ 11 ∷ 0 ∷ []) (1 ∷ 0 ∷ 1 ∷ 1 ∷ 6 ∷ 2 ∷ 0 ∷ 1 ∷ 12 ∷ 2 ∷ 0 ∷ [])
-    (shareBytes (9 ∷ 11 ∷ 3 ∷ 8 ∷ 12 ∷ [])) (5 ∷ 6 ∷ 7 ∷ 2 ∷ 3 ∷ 4 ∷ 7 ∷ 12 ∷ 4 ∷ [])
+    ∷ replay_of 2 (0 ∷ 3 ∷ 1 ∷ 2 ∷ 0 ∷ 0 ∷ 0 ∷ 1 ∷ 0 ∷ 11 ∷ 0 ∷ []) (1 ∷ 0 ∷ 1 ∷ 1 ∷ 6 ∷ 2 ∷ 0 ∷ 1 ∷ 12 ∷ 2 ∷ 0 ∷ [])
+    (share_bytes (9 ∷ 11 ∷ 3 ∷ 8 ∷ 12 ∷ [])) (5 ∷ 6 ∷ 7 ∷ 2 ∷ 3 ∷ 4 ∷ 7 ∷ 12 ∷ 4 ∷ [])
     ((0 ∷ 10 ∷ 2 ∷ 0 ∷ 1 ∷ 3 ∷ 1 ∷ []) ∷ (0 ∷ 9 ∷ []) ∷ (1 ∷ 11 ∷ []) ∷ (2 ∷ 12 ∷ []) ∷ [])
 ";
         assert!(text("ReplayCases").unwrap().contains(row));

@@ -8,7 +8,7 @@ use native.Mathlib.Omega.{arith}
 use lib.ListN.{length, set, drop, length-append, length-drop, drop_of_length-le}
 use Rattle.algebra.specs.Lists.{onto}
 use Rattle.algebra.proofs.Lists.{length_onto, onto_more}
-use Rattle.model.specs.Calls.{Parsed, found, unread, Call, lasted, wrong, line_at, seconds_of, next_of, line_number, Taken, stops_with, with_call, turn, taken, imported}
+use Rattle.model.specs.Calls.{Parsed, found, unread, Call, lasted, wrong, line_at, seconds_of, next_of, line_number, Taken, stops_with, with_call, taken, imported}
 use Rattle.model.specs.Refusing.{first_failed, given}
 use Rattle.calls.specs.declared.Turn.{Turn}
 use Rattle.calls.specs.Meaning.{Turned}

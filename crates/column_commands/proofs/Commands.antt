@@ -1,17 +1,15 @@
 -- Each command on one column: what its function asks, and that it does what its tree does.
 -- Assumes nothing.
 use mathlib.Core.Path.{◌≡◌, refl, sym, ap, subst, ◌∙◌}
-use mathlib.Core.Logic.{◌≢◌}
-use mathlib.Core.List.{List, ◌∷◌}
+use mathlib.Core.List.{List}
 use Prim.Native.Nat.{ℕ, zero, suc, ◌+◌, ◌-◌, ◌*◌, ◌^◌, ◌≤◌, ◌<◌}
 use native.Mathlib.Omega.{arith}
 use lib.ListN.{length, get_or, set, drop}
 use lib.Pow.{pow_mono}
-use Rattle.algebra.specs.Lists.{onto_at}
 use Rattle.model.specs.Bytes.{sevens, row_at}
 use Rattle.model.specs.Counts.{Counts, added}
-use Rattle.model.specs.Costs.{cost_by, cost, mod_triples, of_triples, of_mask}
-use Rattle.model.specs.Commands.{registers_from, command}
+use Rattle.model.specs.Costs.{cost_by, mod_triples, of_triples, of_mask}
+use Rattle.model.specs.Commands.{command}
 use Rattle.model.specs.Deal.{Row, no_row}
 use Rattle.model.specs.Fields.{Field}
 use Rattle.model.specs.Refusing.{given}
@@ -20,10 +18,8 @@ use Rattle.model.specs.Script.{Command, LOAD, CONST, ADD, SUB, SCALE, MUL, MOD, 
 use Rattle.model.specs.Sheet.{rows_at}
 use Rattle.model.specs.Steps.{plus, minus, times, constant}
 use Rattle.model.specs.Trees.{Tree, done, multiply}
-use Rattle.model.specs.Trees as Trees
-use Rattle.model.specs.Replay.{Read, stopped, finished, from_record, by_record}
+use Rattle.model.specs.Replay.{stopped, finished, by_record}
 use Rattle.model.proofs.Operands.{AllSay, operands}
-use Rattle.model.proofs.Trying.{given_done, given_refused}
 use Rattle.sharing.specs.Settings.{setting_of}
 use Rattle.cuts.specs.declared.cut.Cut.{Cut}
 use Rattle.cuts.specs.declared.cut.Cut.TheVariants.{Mod, Trunc, Ltz, Over, Blocks}
@@ -33,10 +29,8 @@ use Rattle.registers.specs.Cells.{register_in, Stored}
 use Rattle.registers.proofs.Cells.{get_seven, set_seven, from_sevens}
 use Rattle.registers.proofs.Readiness.{input_at}
 use Rattle.registers.proofs.Performing.{cut_command}
-use Rattle.column_steps.specs.declared.column.Column.{Column}
 use Rattle.column_steps.specs.declared.column.Ahead.{Ahead}
-use Rattle.column_steps.specs.declared.column.Outcome.{Outcome}
-use Rattle.column_steps.specs.Reads.{table_of, own_of, Working, Standing, deal_from, record_from, read_from, Builder, Comes, past, past_mask, compared}
+use Rattle.column_steps.specs.Reads.{table_of, own_of, Working, Standing, deal_from, record_from, read_from, Builder, past, past_mask, compared}
 use Rattle.column_steps.specs.Remainders.{KM}
 use Rattle.column_steps.specs.Cutting.{cut_tree}
 use Rattle.column_commands.specs.declared.own.Own.{Own}

@@ -2,8 +2,8 @@
 -- Assumes nothing.
 use mathlib.Core.Path.{◌≡◌, refl, sym, ap, subst, ◌∙◌}
 use mathlib.Core.Logic.{◌≢◌}
-use mathlib.Core.List.{List, ◌∷◌}
-use Prim.Native.Nat.{ℕ, zero, suc, ◌+◌, ◌-◌, ◌*◌, ◌^◌, ◌≤◌, ◌<◌}
+use mathlib.Core.List.{List}
+use Prim.Native.Nat.{ℕ, suc, ◌+◌, ◌-◌, ◌*◌, ◌^◌, ◌≤◌, ◌<◌}
 use native.Mathlib.Omega.{arith}
 use lib.ListN.{length, get_or, set}
 use Rattle.algebra.specs.Lists.{onto_at}
@@ -11,9 +11,7 @@ use Rattle.model.specs.Bytes.{sevens}
 use Rattle.model.specs.Commands.{registers_from, signs}
 use Rattle.model.specs.Costs.{mod_triples}
 use Rattle.model.specs.Deal.{Row, no_row}
-use Rattle.model.specs.Refusing.{given}
 use Rattle.model.specs.Trees.{Tree}
-use Rattle.model.specs.Replay.{stopped}
 use Rattle.model.proofs.Trying.{given_done, given_refused}
 use Rattle.cuts.specs.declared.cut.Cut.TheVariants.{Ltz}
 use Rattle.registers.specs.Cells.{register_in}
@@ -21,7 +19,7 @@ use Rattle.registers.proofs.Cells.{get_seven, set_seven}
 use Rattle.column_steps.specs.declared.column.Column.{Column}
 use Rattle.column_steps.specs.declared.column.Ahead.{Ahead}
 use Rattle.column_steps.specs.declared.column.Outcome.{Outcome}
-use Rattle.column_steps.specs.Reads.{own_of, Working, Standing, read_from, Builder, Comes, past, past_mask}
+use Rattle.column_steps.specs.Reads.{Working, Standing, read_from, Comes, past, past_mask}
 use Rattle.column_steps.specs.Cutting.{cut_tree}
 use Rattle.column_steps.proofs.Opening.{counts_on}
 use Rattle.column_commands.specs.Signing.{past_signs, signs_tree, SignsCome}

@@ -12,7 +12,7 @@ use Rattle.model.specs.Run.{row_command}
 use Rattle.model.specs.Script.{Command, in_ranges}
 use Rattle.model.specs.Sheet.{rows_at}
 use Rattle.model.specs.Trees.{done}
-use Rattle.model.specs.Replay.{Read, stopped, finished}
+use Rattle.model.specs.Replay.{stopped, finished}
 use Rattle.registers.specs.declared.table.Table.{Table}
 use Rattle.from_record.specs.declared.Opened.{Opened}
 use Rattle.column_steps.specs.declared.column.Column.{Column}

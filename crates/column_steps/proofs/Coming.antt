@@ -1,15 +1,14 @@
 -- What a step comes to: a refusal ends it, whatever follows; and two steps, one after the other, are one.
 -- Assumes nothing.
-use mathlib.Core.Path.{◌≡◌, refl, sym, ap, ◌∙◌}
+use mathlib.Core.Path.{◌≡◌, sym, ◌∙◌}
 use mathlib.Core.Logic.{◌≢◌}
 use mathlib.Core.List.{List}
-use Prim.Native.Nat.{ℕ, zero, suc, ◌+◌, ◌*◌, ◌≤◌}
+use Prim.Native.Nat.{ℕ, ◌+◌, ◌*◌, ◌≤◌}
 use native.Mathlib.Omega.{arith}
 use lib.ListN.{length}
 use Rattle.model.specs.Deal.{Row}
-use Rattle.model.specs.Refusing.{given}
 use Rattle.model.specs.Trees.{Tree}
-use Rattle.model.specs.Replay.{Read, stopped}
+use Rattle.model.specs.Replay.{stopped}
 use Rattle.model.proofs.Trying.{given_done, given_refused}
 use Rattle.column_steps.specs.declared.column.Column.{Column}
 use Rattle.column_steps.specs.declared.column.Ahead.{Ahead}

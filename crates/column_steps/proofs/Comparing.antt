@@ -13,7 +13,6 @@ use Rattle.model.specs.Deal.{Row}
 use Rattle.model.specs.Trees.{Tree, odd, multiply}
 use Rattle.model.specs.Trees as Trees
 use Rattle.model.specs.Steps.{row_ops, constant, chosen}
-use Rattle.model.specs.Replay.{Read, stopped}
 use Rattle.model.proofs.Trying.{given_done, given_refused}
 use Rattle.sharing.specs.Settings.{setting_of}
 use Rattle.column_steps.specs.declared.column.Column.{Column}

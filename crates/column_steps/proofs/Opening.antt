@@ -1,7 +1,6 @@
 -- An opening of the record, and what follows: by the number and the value that reading it gave.
 -- Assumes nothing.
 use mathlib.Core.Path.{◌≡◌, refl, sym, ap, ◌∙◌}
-use mathlib.Core.Logic.{◌≢◌}
 use mathlib.Core.Bool.{true}
 use mathlib.Core.List.{List}
 use Prim.Native.Nat.{ℕ, zero, suc, ◌+◌, ◌*◌, ◌^◌, ◌≤◌, ◌<◌}
@@ -12,12 +11,12 @@ use lib.ListN.{length, drop, length-drop}
 use lib.Seq.{drop-drop}
 use Rattle.algebra.proofs.Tests.{and_left}
 use Rattle.model.specs.Deal.{Row}
-use Rattle.model.specs.Refusing.{first_failed, given}
+use Rattle.model.specs.Refusing.{given}
 use Rattle.model.specs.Replay.{Read, stopped, own_share, opening, opened_value, opening_tests, opening_number, from_record}
-use Rattle.model.proofs.Trying.{numbered, holding, all_hold, given_done, given_refused}
+use Rattle.model.proofs.Trying.{numbered, holding, all_hold}
 use Rattle.from_record.specs.declared.Opened.{Opened}
 use Rattle.column_steps.specs.declared.column.Column.{Column}
-use Rattle.column_steps.specs.Reads.{table_of, Working, record_from, OpensNext}
+use Rattle.column_steps.specs.Reads.{Working, record_from, OpensNext}
 
 -- an opening that is not refused is there
 long_enough : (p n t j own : ℕ) (log : List ℕ) → opening_number p n t j own log ≡ 0 → n ≤ length log

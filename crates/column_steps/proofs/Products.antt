@@ -1,18 +1,17 @@
 -- MUL on one column: the triple at its place, and two openings.
 -- Assumes nothing.
-use mathlib.Core.Path.{◌≡◌, refl, sym, ap, ◌∙◌}
+use mathlib.Core.Path.{◌≡◌, sym, ◌∙◌}
 use mathlib.Core.Logic.{◌≢◌}
 use mathlib.Core.List.{List}
-use Prim.Native.Nat.{ℕ, suc, ◌+◌, ◌*◌, ◌≤◌}
+use Prim.Native.Nat.{ℕ, suc, ◌+◌, ◌*◌}
 use native.Mathlib.Omega.{arith}
-use lib.ListN.{length}
 use Rattle.model.specs.Bytes.{row_at}
-use Rattle.model.specs.Deal.{Row, Triple, Deal}
+use Rattle.model.specs.Deal.{Row, Triple}
 use Rattle.model.specs.Refusing.{given}
-use Rattle.model.specs.Sheet.{masks_from, triples_from}
+use Rattle.model.specs.Sheet.{triples_from}
 use Rattle.model.specs.Trees.{Tree, multiply}
 use Rattle.model.specs.Steps.{minus, beaver, next_triple, less_triple}
-use Rattle.model.specs.Replay.{Read, stopped, from_record, by_record}
+use Rattle.model.specs.Replay.{stopped, from_record, by_record}
 use Rattle.model.proofs.Trying.{given_done, given_refused}
 use Rattle.sharing.specs.Settings.{setting_of}
 use Rattle.from_record.specs.declared.Opened.{Opened}

@@ -1,22 +1,21 @@
 -- MOD on one column, from its end to its start: each part comes to what its tree comes to, if the part behind it does.
 -- Assumes nothing.
-use mathlib.Core.Path.{◌≡◌, refl, sym, ap, subst, ◌∙◌}
+use mathlib.Core.Path.{◌≡◌, refl, sym, subst, ◌∙◌}
 use mathlib.Core.Logic.{◌≢◌}
 use mathlib.Core.List.{List}
 use Prim.Native.Nat.{ℕ, zero, suc, ◌+◌, ◌-◌, ◌*◌, ◌%◌, ◌^◌, ◌≤◌, ◌<◌}
 use native.Mathlib.Omega.{arith}
 use lib.ListN.{length, take, drop}
-use Rattle.algebra.specs.Lists.{first}
 use Rattle.model.specs.Bytes.{sevens}
 use Rattle.model.specs.Costs.{mod_triples}
 use Rattle.model.specs.Deal.{Row}
 use Rattle.model.specs.Deal as Deal
 use Rattle.model.specs.Refusing.{given}
 use Rattle.model.specs.Sheet.{rows_at, masks_from}
-use Rattle.model.specs.Steps.{row_ops, plus, minus, constant, spelled, under_mask, next_mask, less_mask}
+use Rattle.model.specs.Steps.{row_ops, plus, minus, constant, spelled, under_mask}
 use Rattle.model.specs.Trees.{Tree, multiply, mask}
 use Rattle.model.specs.Trees as Trees
-use Rattle.model.specs.Replay.{Read, stopped, from_record, by_record}
+use Rattle.model.specs.Replay.{stopped, by_record}
 use Rattle.model.proofs.Trying.{given_done, given_refused}
 use Rattle.sharing.specs.Settings.{setting_of}
 use Rattle.local.specs.declared.remainder.Publics.{Publics}
@@ -25,10 +24,10 @@ use Rattle.from_record.specs.declared.Opened.{Opened}
 use Rattle.column_steps.specs.declared.column.Column.{Column}
 use Rattle.column_steps.specs.declared.column.Ahead.{Ahead}
 use Rattle.column_steps.specs.declared.column.Outcome.{Outcome}
-use Rattle.column_steps.specs.Reads.{table_of, own_of, Working, Standing, OpensNext, deal_from, record_from, read_from, Builder, Comes, past, past_mask, compared}
-use Rattle.column_steps.specs.Remainders.{u0_triples, f_triples, after_u1, after_u0, after_f, after_c, from_x, KM, modded}
+use Rattle.column_steps.specs.Reads.{own_of, Working, Standing, OpensNext, read_from, Builder, Comes, past, past_mask, compared}
+use Rattle.column_steps.specs.Remainders.{u0_triples, f_triples, after_u1, after_u0, after_f, after_c, from_x, modded}
 use Rattle.column_steps.proofs.Opening.{counts_on}
-use Rattle.column_steps.proofs.Coming.{comes_refused, first_refused, then_comes, made_refused, row_of, standing_past, standing_first}
+use Rattle.column_steps.proofs.Coming.{comes_refused, first_refused, then_comes, made_refused, row_of}
 
 -- places past some triples, and then past some more
 past_past : (at : Ahead) (j k : ℕ) → past (past at j) k ≡ past at (j + k)

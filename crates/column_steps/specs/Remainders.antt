@@ -4,7 +4,7 @@ use Rattle.std.specs.Prelude.{List, ℕ, ◌+◌, ◌-◌, ◌^◌, ◌≤◌, �
 use Rattle.model.specs.Deal.{Row}
 use Rattle.model.specs.Steps.{plus, minus, row_remainder}
 use Rattle.sharing.specs.declared.setting.Setting.{Setting}
-use Rattle.model.specs.Trees.{Tree, multiply, mask}
+use Rattle.model.specs.Trees.{multiply, mask}
 use Rattle.local.specs.declared.remainder.Publics.{Publics}
 use Rattle.local.specs.Unmasking.{publics, unmasked_by}
 use Rattle.column_steps.specs.declared.column.Column.{Column}

@@ -33,7 +33,6 @@ use Rattle.costs.specs.declared.cost.Cost.{Cost}
 use Rattle.costs.specs.declared.spent.Spent.{Spent}
 use Rattle.costs.specs.Costing.{counts_of, cost_of, spent_of, Costs, Within, Summing, Supplied, Checkable}
 use Rattle.costs.proofs.Attempts.{Words, Numbers, Tried, nothing_within, costable, checkable, summing, paid_within}
-use Rattle.forecasting.specs.declared.lines.Foreseen.{Foreseen}
 use Rattle.forecasting.specs.Forecasting.{foreseen_of, Foresees}
 
 -- lines gone over from what was spent on

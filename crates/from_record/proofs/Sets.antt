@@ -9,7 +9,7 @@ use Prim.Native.Nat.{ℕ, zero, suc, ◌+◌, ◌-◌, ◌*◌, ◌/◌, ◌%◌
 use native.Mathlib.Nat.{pow-suc, div-one, mul-one, div-div-eq-div-mul, div-mul-le_self, mul_comm}
 use native.Mathlib.Decide.{dec_lt}
 use native.Mathlib.Omega.{arith}
-use lib.ListN.{length, set, take}
+use lib.ListN.{length, take}
 use lib.Seq.{take-append-le}
 use Rattle.algebra.specs.Lists.{from}
 use Rattle.algebra.proofs.Lists.{in_from, length_from}

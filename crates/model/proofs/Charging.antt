@@ -1,7 +1,7 @@
 -- BLOCKS, in every field: the sum before the floor, the floor of that sum, and how many blocks are begun.
 -- Assumes nothing.
 use mathlib.Core.Path.{◌≡◌, ap, ◌∙◌}
-use Prim.Native.Nat.{ℕ, ◌+◌, ◌-◌, ◌^◌, ◌≤◌, ◌<◌}
+use Prim.Native.Nat.{ℕ, ◌+◌, ◌^◌, ◌≤◌, ◌<◌}
 use lib.IntN.{pos, ◌+ℤ◌}
 use lib.Pow.{pow_pos}
 use Rattle.algebra.specs.Ring.{add}

@@ -1,30 +1,28 @@
 -- A run whoever is present: all rows that it opens are sharings, of which any t + 1 parties give the same value, so it is the run with everyone present.
 -- Assumes nothing.
-use mathlib.Core.Path.{◌≡◌, refl, sym, ap, subst, ◌∙◌}
-use mathlib.Core.Logic.{◌↔◌, ◌≢◌, inl, inr}
+use mathlib.Core.Path.{◌≡◌, refl, sym, ap, ◌∙◌}
+use mathlib.Core.Logic.{◌≢◌, inr}
 use mathlib.Core.Bool.{Bool, true, false, cond}
-use mathlib.Core.List.{List, [], ◌∷◌, ◌++◌}
-use Prim.Native.Nat.{ℕ, zero, suc, ◌+◌, ◌-◌, ◌*◌, ◌%◌, ◌^◌, ◌≤◌, ◌<◌}
+use mathlib.Core.List.{List, [], ◌∷◌}
+use Prim.Native.Nat.{ℕ, zero, suc, ◌+◌, ◌-◌, ◌*◌, ◌%◌, ◌≤◌, ◌<◌}
 use native.Mathlib.Nat.{mul-le-mul, mul-suc}
 use native.Mathlib.Omega.{arith}
 use lib.ListN.{length, get_or, drop, get_or-append}
 use lib.Seq.{get_or-append-add, get_or-drop}
-use Rattle.algebra.specs.Lists.{All, none, one, Below, onto}
-use Rattle.algebra.specs.Rows.{tab}
+use Rattle.algebra.specs.Lists.{All, one, Below, onto}
 use Rattle.algebra.proofs.Lists.{below_any, length_onto}
 use Rattle.algebra.proofs.Rows.{get_or_tab, tab_ext}
 use Rattle.model.specs.Fields.{Parties, InUse, modulus}
-use Rattle.model.specs.Sharing.{Sharing, at, secret, value_from, weight, weighted}
+use Rattle.model.specs.Sharing.{at, value_from, weight, weighted}
 use Rattle.model.specs.Presence.{is_present, everyone, PermittedSet, openers}
-use Rattle.model.specs.Refusing.{first_failed, given}
+use Rattle.model.specs.Refusing.{first_failed}
 use Rattle.model.specs.Trees.{Tree, done, multiply, mask, reveal}
-use Rattle.model.specs.Steps.{Setting, Row, Deal, Worked, after, plus, minus, times, constant, value, recorded, written, by_rows, next_triple, next_mask, under_mask, beaver, less_triple, less_mask}
+use Rattle.model.specs.Steps.{Setting, Row, Deal, Worked, after, plus, minus, times, constant, value, recorded, written, by_rows, less_triple, less_mask}
 use Rattle.model.specs.Script.{Line, Script, accepted, refused}
 use Rattle.model.specs.Commands.{Ended}
-use Rattle.model.specs.Sheet.{Header, header_of, setting_with, setting_of, input_in, deal_in, header_tests, sheet_number}
-use Rattle.model.specs.Run.{Supply, State, Stop, state_after, row_lines, run_lines, start, nothing_spent, outcome, refused_input, run_script, sheet_script, stop_of, run}
+use Rattle.model.specs.Sheet.{Header, header_of, setting_with, setting_of, header_tests, sheet_number}
+use Rattle.model.specs.Run.{Supply, Stop, state_after, row_lines, run_lines, start, nothing_spent, outcome, refused_input, run_script, sheet_script, stop_of, run}
 use Rattle.model.specs.Exactness.{Accepted}
-use Rattle.model.specs.Refusals.{Untouched}
 use Rattle.model.specs.PresentRuns.{AbsentMarked, SameRun, OpenedBy, PresentRuns}
 use Rattle.model.proofs.Fields.{fields}
 use Rattle.model.proofs.Presence.{presence, openers_group}

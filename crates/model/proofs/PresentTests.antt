@@ -1,13 +1,11 @@
 -- A sheet's number by the tests before and after 12: who is present decides nothing else of it.
 -- Assumes nothing.
-use mathlib.Core.Path.{◌≡◌, refl, sym, ap, ap₂, ◌∙◌}
+use mathlib.Core.Path.{◌≡◌, refl, sym, ap, ◌∙◌}
 use mathlib.Core.Logic.{◌↔◌, ◌≢◌}
-use mathlib.Core.Bool.{Bool, true, false}
+use mathlib.Core.Bool.{Bool}
 use mathlib.Core.List.{List, [], ◌∷◌, ◌++◌}
 use Prim.Native.Nat.{ℕ, zero, suc, ◌≤◌}
 use native.Mathlib.Omega.{arith}
-use lib.Dec.{T}
-use lib.ListN.{length}
 use Rattle.algebra.proofs.Tests.{is_true, is_false}
 use Rattle.model.specs.Fields.{field_tests, setting_tests}
 use Rattle.model.specs.Presence.{everyone, PermittedSet, permitted_set}

@@ -14,7 +14,7 @@ use Rattle.model.specs.Refusing.{first_failed, given}
 use Rattle.model.specs.Deal.{Setting, Row, Deal, no_row}
 use Rattle.model.specs.Trees.{Tree, done, multiply, mask, reveal}
 use Rattle.model.specs.Steps.{minus, next_triple, next_mask, less_triple, less_mask, beaver, under_mask}
-use Rattle.model.specs.Script.{Command, Line, Script, accepted, refused}
+use Rattle.model.specs.Script.{Line, Script, accepted, refused}
 use Rattle.model.specs.Counts.{Counts, no_counts}
 use Rattle.model.specs.Costs.{mod_triples}
 use Rattle.model.specs.Checks.{Spent, Supply}

@@ -1,39 +1,36 @@
 -- The entry by the tests before the run, and the lines after them.
 -- Assumes nothing.
 use mathlib.Core.Path.{◌≡◌, refl, sym, ap, ◌∙◌}
-use mathlib.Core.Logic.{◌≢◌, ◌⊎◌, inl, inr}
+use mathlib.Core.Logic.{◌≢◌, inl, inr}
 use mathlib.Core.Bool.{Bool, true, false, ◌&&◌}
-use mathlib.Core.List.{List, [], ◌∷◌, ◌++◌, map}
-use Prim.Native.Nat.{ℕ, zero, suc, ◌+◌, ◌-◌, ◌*◌, ◌≤◌, ◌<◌}
+use mathlib.Core.List.{List, [], ◌∷◌, ◌++◌}
+use Prim.Native.Nat.{ℕ, zero, suc, ◌+◌, ◌*◌, ◌≤◌, ◌<◌}
 use native.Mathlib.Omega.{arith}
 use lib.Dec.{T, leb, ltb, leb→le, le→leb}
-use lib.ListN.{length, get_or, take, replicate}
-use Rattle.algebra.specs.Lists.{Below, all_below}
+use lib.ListN.{length, take, replicate}
+use Rattle.algebra.specs.Lists.{all_below}
 use Rattle.algebra.specs.Rows.{tab, row}
 use Rattle.algebra.proofs.Lists.{all_below_lem}
 use Rattle.algebra.proofs.Rows.{tab_ext}
 use Rattle.algebra.proofs.Tests.{and_left, and_right, and_both, is_true, is_false, true_false}
-use Rattle.model.specs.Bytes.{number, row_at, sevens}
-use Rattle.model.specs.Deal.{Row, no_row}
-use Rattle.model.specs.Fields.{modulus, InUse}
-use Rattle.model.specs.Refusing.{first_failed, given}
-use Rattle.model.specs.Run.{nothing_spent, sheet_script}
+use Rattle.model.specs.Bytes.{number, row_at}
+use Rattle.model.specs.Fields.{modulus}
+use Rattle.model.specs.Refusing.{first_failed}
+use Rattle.model.specs.Run.{sheet_script}
 use Rattle.model.specs.Script.{Script, accepted, refused, script_of}
-use Rattle.model.specs.Sheet.{Header, header_of, header_size, mask_bits, setting_of, inputs_at, row_count, rows_at, all, limits, header_tests, limit_tests}
+use Rattle.model.specs.Sheet.{Header, header_of, header_size, inputs_at, row_count, rows_at, all, limits, header_tests, limit_tests}
 use Rattle.model.specs.Columns.{part_length, shares_in}
-use Rattle.model.specs.Forecast.{ample_supply}
-use Rattle.model.specs.Replay.{Replayed, part_input, part_deal, replay_tests, nothing_replayed, replayed_by, replay_script, replay, own_share}
+use Rattle.model.specs.Replay.{part_input, part_deal, nothing_replayed, replayed_by, replay_script, replay}
 use Rattle.model.specs.Replays.{ReplayReady}
 use Rattle.model.proofs.ReplayTests.{ready, before}
-use Rattle.model.proofs.Trying.{numbered, given_done, others_decide, others_pass}
+use Rattle.model.proofs.Trying.{numbered, others_decide, others_pass}
 use Rattle.model.proofs.Refusals.{script_late}
 use Rattle.model.proofs.Lengths.{header_field, header_numbered}
 use Rattle.sheet.specs.declared.frame.Frame.{Frame}
-use Rattle.sheet.specs.declared.header.Header as Declared
 use Rattle.sheet.specs.Framed.{Headed}
 use Rattle.sheet.specs.declared.header.Read.{Read}
 use Rattle.sheet.specs.declared.header.Read.TheVariants.{Sheet, Refused}
-use Rattle.sheet.specs.Reading.{told, Reads}
+use Rattle.sheet.specs.Reading.{Reads}
 use Rattle.sheet.proofs.Answers.{header_long}
 use Rattle.sheet.proofs.Headers.{bits_in, mask_rows_in}
 use Rattle.sheet.proofs.Scripts.{script_part, script_read}
@@ -41,14 +38,13 @@ use Rattle.script.specs.Meaning.{script_number, script_place}
 use Rattle.model.specs.Counts.{no_counts}
 use Rattle.model.specs.Counts as Paper
 use Rattle.costs.specs.declared.counts.Counts.{Counts}
-use Rattle.costs.specs.Costing.{counts_of, spent_of}
-use Rattle.column_steps.specs.Reads.{table_of}
+use Rattle.costs.specs.Costing.{counts_of}
 use Rattle.column_commands.specs.declared.own.Own.{Own}
 use Rattle.replay.specs.declared.Answer.{Answer}
 use Rattle.replay.specs.declared.lines.Stopped.{Stopped}
 use Rattle.replay.specs.Answers.{answer_of}
 use Rattle.replay.specs.Lines.{Prepared, ended_of, script_replayed, lines_replayed}
-use Rattle.replay.specs.Owning.{Framing, ColumnFor, OwnFor}
+use Rattle.replay.specs.Owning.{Framing, OwnFor}
 
 -- 5, over rows of one share and over the shares of the part
 one_more : (p x : ℕ) (b c : Bool) → b ≡ c → (all_below p (x ∷ []) && b) ≡ (ltb x p && c)

@@ -2,12 +2,12 @@
 -- Assumes nothing.
 use mathlib.Core.Path.{◌≡◌, refl, sym, ap, subst, ◌∙◌}
 use mathlib.Core.Logic.{◌≢◌}
-use mathlib.Core.List.{List, [], ◌∷◌}
-use Prim.Native.Nat.{ℕ, ◌+◌, ◌-◌, ◌*◌, ◌/◌, ◌^◌, ◌≤◌, ◌<◌}
+use mathlib.Core.List.{List, ◌∷◌}
+use Prim.Native.Nat.{ℕ, ◌+◌, ◌-◌, ◌*◌, ◌≤◌, ◌<◌}
 use native.Mathlib.Nat.{mul-le-mul_right}
 use native.Mathlib.Omega.{arith}
 use lib.Dec.{T}
-use lib.ListN.{length, drop, replicate}
+use lib.ListN.{length, replicate}
 use Rattle.model.specs.Bytes.{sevens}
 use Rattle.model.specs.Checks as Checks
 use Rattle.model.specs.Commands.{Ended}
@@ -20,7 +20,7 @@ use Rattle.model.specs.Run.{nothing_spent, row_command}
 use Rattle.model.specs.Script.{Script, Line, accepted, refused, reading_at, script_of, in_ranges}
 use Rattle.model.specs.Sheet.{rows_at}
 use Rattle.model.specs.Trees.{done}
-use Rattle.model.specs.Replay.{Read, stopped, finished, by_record, replay_lines}
+use Rattle.model.specs.Replay.{stopped, finished, by_record, replay_lines}
 use Rattle.model.specs.Replays.{ByLines}
 use Rattle.model.proofs.Checks.{Passed, check_passed}
 use Rattle.model.proofs.ReplayTests.{by_lines}
@@ -39,13 +39,11 @@ use Rattle.costs.specs.declared.counts.Counts.{Counts}
 use Rattle.costs.specs.declared.cost.Cost.{Cost}
 use Rattle.costs.specs.declared.spent.Spent.{Spent}
 use Rattle.costs.specs.Costing.{counts_of, cost_of, spent_of, Costs, Within, Summing, Supplied, Checkable, supply_in}
-use Rattle.costs.proofs.Attempts.{Words, Numbers, Tried, nothing_within, costable, checkable, number_is, passed, summing, paid_within}
+use Rattle.costs.proofs.Attempts.{Words, Numbers, Tried, nothing_within, costable, checkable, number_is, summing, paid_within}
 use Rattle.registers.specs.declared.table.Table.{Table}
 use Rattle.column_steps.specs.Reads.{table_of, own_of, deal_from, record_from}
 use Rattle.column_commands.specs.declared.own.Own.{Own}
-use Rattle.column_commands.specs.declared.own.Done.{Done}
 use Rattle.column_commands.specs.Does.{ahead_of, price_of, Ready, Does}
-use Rattle.replay.specs.declared.lines.Stopped.{Stopped}
 use Rattle.replay.specs.Lines.{Prepared, ended_of, script_replayed, lines_replayed}
 
 -- the lines from what was spent and the cells on

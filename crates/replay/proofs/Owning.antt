@@ -11,7 +11,6 @@ use Rattle.algebra.specs.Ring.{mul}
 use Rattle.algebra.specs.Lists.{from, onto}
 use Rattle.algebra.proofs.Lists.{Writing, writing_end, below_nil, below_cons}
 use Rattle.model.specs.Bytes.{sevens}
-use Rattle.model.specs.Deal.{Row}
 use Rattle.model.specs.Fields.{Modulus, modulus}
 use Rattle.model.proofs.Fields.{fields}
 use Rattle.model.specs.Presence.{bit, present_in, absent_in, openers}

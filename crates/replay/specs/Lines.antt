@@ -1,6 +1,6 @@
 -- The lines of a script on one party's column, as the code works them.
 -- Assumes nothing.
-use Rattle.std.specs.Prelude.{◌≡◌, List, ℕ, ◌+◌, ◌*◌, ◌≤◌, length, replicate}
+use Rattle.std.specs.Prelude.{◌≡◌, List, ℕ, ◌+◌, ◌*◌, length, replicate}
 use Rattle.model.specs.Bytes.{sevens}
 use Rattle.model.specs.Commands.{Ended}
 use Rattle.model.specs.Deal.{Row, no_row}

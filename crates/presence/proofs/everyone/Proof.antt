@@ -4,7 +4,7 @@ use Prim.Native.Nat.{ℕ, zero, suc, ◌≤◌}
 use Rattle.model.specs.Presence.{everyone}
 use borrow.Author.Rules.{rules}
 use lib.ListN.{get_or}
-use mathlib.Core.List.{List, [], ◌∷◌}
+use mathlib.Core.List.{[], ◌∷◌}
 use mathlib.Core.Path.{◌≡◌, refl}
 use native.Mathlib.Omega.{arith}
 use Rattle.presence.proofs.everyone.Statement.{statement}

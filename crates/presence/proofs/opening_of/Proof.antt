@@ -3,7 +3,6 @@
 use Rattle.algebra.proofs.Lists.{below_nil, below_cons}
 use Rattle.presence.proofs.Presences.{opens_by, opens_all}
 use borrow.Author.Rules.{rules}
-use mathlib.Core.Path.{◌≡◌, ◌∙◌}
 use native.Mathlib.Numerals.{add-one}
 use native.Mathlib.Omega.{arith}
 use Rattle.presence.proofs.opening_of.Statement.{statement}

@@ -1,8 +1,6 @@
 -- `nothing` meets its contract.
 -- Assumes nothing.
 use borrow.Author.Rules.{rules}
-use mathlib.Core.Path.{ap}
-use Rattle.model.specs.Counts.{Counts}
 use Rattle.replay.proofs.Entry.{nothing_is}
 use Rattle.replay.proofs.nothing.Statement.{statement}
 use Rattle.replay.proofs.nothing.Tie as tie

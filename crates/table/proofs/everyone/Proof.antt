@@ -1,6 +1,6 @@
 -- `everyone` meets its contract: where the header has no n of at most 7, 1, 2 or 3 refuses, whatever the byte is.
 -- Assumes nothing.
-use mathlib.Core.Path.{◌≡◌, refl, ap, ◌∙◌}
+use mathlib.Core.Path.{◌≡◌, refl, ap}
 use mathlib.Core.Logic.{◌≢◌}
 use mathlib.Core.List.{List}
 use Prim.Native.Nat.{ℕ, ◌<◌}

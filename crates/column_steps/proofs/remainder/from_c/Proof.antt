@@ -3,7 +3,7 @@
 use Prim.Native.Nat.{◌^◌, ◌<◌}
 use lib.ListN.{length}
 use borrow.Author.Rules.{rules}
-use Rattle.column_steps.proofs.Coming.{standing_first, standing_past}
+use Rattle.column_steps.proofs.Coming.{standing_past}
 use Rattle.column_steps.proofs.Remainders.{next_places, c_standing, c_refused, c_comes}
 use Rattle.column_steps.proofs.remainder.from_c.Statement.{statement}
 use Rattle.column_steps.proofs.remainder.from_c.Tie as tie

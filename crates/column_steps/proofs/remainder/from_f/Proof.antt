@@ -3,7 +3,7 @@
 use Prim.Native.Nat.{◌^◌, ◌<◌}
 use lib.ListN.{length}
 use borrow.Author.Rules.{rules}
-use Rattle.column_steps.proofs.Coming.{standing_first, standing_past}
+use Rattle.column_steps.proofs.Coming.{standing_past}
 use Rattle.column_steps.proofs.Remainders.{next_places, f_refused, f_comes}
 use Rattle.column_steps.proofs.remainder.from_f.Statement.{statement}
 use Rattle.column_steps.proofs.remainder.from_f.Tie as tie

@@ -2,7 +2,6 @@
 -- Assumes nothing.
 use Prim.Native.Nat.{◌≤◌}
 use Rattle.sharing.proofs.Opened.{point_in, term_most, summed}
-use borrow.Author.Rules.{rules}
 use native.Mathlib.Omega.{arith}
 use Rattle.sharing.proofs.opening.opened_sum.Statement.{statement}
 use Rattle.sharing.proofs.opening.opened_sum.Tie as tie
