@@ -66,6 +66,7 @@ fn encode_number(field: u32, k: u32, a: i64) -> u32
     if coding::in_range(k, a) { 0 } else { 11 }
 }
 
+#[tactic(auto, using(model::proofs::Trying::trying), unfolding(model::specs::Entries::decode_tests))]
 fn decode_number(field: u32, v: u32) -> u32
     ensures { result ≡ decode_number field v }
 {

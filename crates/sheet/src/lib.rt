@@ -61,6 +61,7 @@ fn body_number(s: &[u8], f: Frame) -> u32
 }
 
 // 5 to 8, or 0: "each over the whole sheet before the next".
+#[tactic(auto, using(model::proofs::Trying::trying, crate::proofs::Headers::modulus_in, crate::proofs::Headers::row_count, crate::proofs::Answers::rows_told, crate::proofs::Answers::rows_within), unfolding(model::specs::Sheet::row_tests))]
 fn rows_number(s: &[u8], f: Frame) -> u32
     requires { Headed (Sheet.header_of s.now) f × WorkedBy f.p f.n f.t f.opening × Whole s.now f }
     ensures { result ≡ first_failed (Sheet.row_tests (setting_in f) (inputs_of s.now f) (deal_of s.now f)) }
