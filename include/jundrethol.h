@@ -100,8 +100,8 @@ extern "C" {
 #define JUNDRETHOL_COUNT_REVEALED 5
 
 /* No call of jundrethol_replay, and no call of another function, takes more bytes of stack than these, with its arguments and return address. */
-#define JUNDRETHOL_REPLAY_STACK 49152
-#define JUNDRETHOL_STACK 32768
+#define JUNDRETHOL_REPLAY_STACK 40960
+#define JUNDRETHOL_STACK 24576
 
 /* Runs a sheet.
  *

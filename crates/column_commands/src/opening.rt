@@ -1,4 +1,5 @@
 // The commands that open shares, but for LTZS: MUL, BITLT, the cuts, and REVEAL.
+// They are not inlined, so that the frame of their caller does not hold the tables of all of them.
 ghost use Rattle.std.specs.Prelude.{◌≡◌, ◌+◌, ◌-◌, ◌*◌, ◌≤◌, ◌<◌, length, drop};
 ghost use Rattle.model.specs.Bytes as Bytes;
 ghost use Rattle.model.specs.Costs.{mod_triples};
@@ -19,6 +20,7 @@ use from_record::Opened;
 use registers::table::{Table, register};
 
 // MUL d a b
+#[inline(never)]
 pub fn multiply(
     table: Table,
     c: Column,
@@ -56,6 +58,7 @@ fn comparison_from(
 }
 
 // BITLT d b w v
+#[inline(never)]
 pub fn compare(
     table: Table,
     c: Column,
@@ -75,6 +78,7 @@ pub fn compare(
 }
 
 // A cut of register a goes to register d: MOD, TRUNC, LTZ, OVER or BLOCKS.
+#[inline(never)]
 pub fn cut(
     table: Table,
     c: Column,
@@ -102,6 +106,7 @@ fn reveal(table: Table, c: Column, at: Ahead, log: &[u32], a: usize) -> Opened
     column::open_row(c, log, at.opening, row)
 }
 
+#[inline(never)]
 pub fn revealed(table: Table, c: Column, at: Ahead, log: &[u32], a: usize) -> Done
     requires { Working c × (c.reader.n * at.opening ≤ length log.now) × (a < 64) }
     ensures { Reveals c log.now at.opening (register_in table.cells a) result.number × (result.table ≡ table) }

@@ -1,4 +1,5 @@
 // What a party's column is worked with, and where it goes on.
+// What takes a table is not inlined, so that the frame of the caller does not hold a table for each call.
 ghost use Rattle.std.specs.Prelude.{◌≡◌, ◌+◌, ◌*◌, ◌^◌, ◌≤◌, ◌<◌, length};
 ghost use Rattle.model.specs.Bytes as Bytes;
 ghost use Rattle.costs.specs.Costing.{counts_of};
@@ -43,6 +44,7 @@ pub fn ahead_of(own: Own, spent: Counts) -> Ahead
 }
 
 // A step that came to a number and a row: where the number is 0 the row goes to register d.
+#[inline(never)]
 pub fn stored(table: Table, d: usize, number: u32, row: Row) -> Done
     requires { d < 64 }
     ensures { Stores table d number row.shares result }
@@ -57,6 +59,7 @@ pub fn stored(table: Table, d: usize, number: u32, row: Row) -> Done
 }
 
 // LOAD d: the next input row, of one share
+#[inline(never)]
 pub fn load(table: Table, part: &[u8], d: usize) -> Table
     requires { (4 * table.spent.counts.inputs + 4 ≤ length part.now) × (d < 64) }
     ensures { Stored d (λ z. z ≡ Bytes.row_at part.now 1 (4 * table.spent.counts.inputs)) table.cells result.cells × (result.spent ≡ table.spent) }

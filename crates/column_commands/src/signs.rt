@@ -1,4 +1,5 @@
 // LTZS.
+// It is not inlined, so that the frame of its caller does not hold its tables.
 ghost use Rattle.std.specs.Prelude.{◌≡◌, ◌+◌, ◌-◌, ◌*◌, ◌^◌, ◌≤◌, ◌<◌, length};
 ghost use Rattle.model.specs.Costs.{mod_triples};
 ghost use Rattle.cuts.specs.declared.cut.Cut.TheVariants.{Ltz};
@@ -46,6 +47,7 @@ fn past_sign(c: Column, at: Ahead, k: u32) -> Ahead
 }
 
 // LTZS d a h k: LTZ of h registers in rising order, each read as it stood before the command. A refusal leaves none of them.
+#[inline(never)]
 pub fn signs(
     table: Table,
     c: Column,

@@ -63,7 +63,8 @@ pub fn put_counts(part: &mut [u64], place: usize, spent: Counts)
     }
 }
 
-// Registers, marks, place and counts of an answer.
+// Registers, marks, place and counts of an answer. Not inlined, so that the frame of the function for C does not hold a copy of the answer.
+#[inline(never)]
 pub fn hand(answer: Answer, registers: &mut [u32], marks: &mut [u8], counts: &mut [u64])
     ensures { Delivered answer registers.old registers.new marks.old marks.new counts.old counts.new }
 {

@@ -1,4 +1,5 @@
 // The run of a sheet.
+// What answers with a table is not inlined, so that the frame of its caller does not hold its tables too.
 ghost use Rattle.std.specs.Prelude.{◌≡◌, length};
 ghost use Rattle.model.specs.Run as Run;
 ghost use Rattle.sheet.specs.Framed.{setting_in};
@@ -23,6 +24,7 @@ pub struct Answer {
 
 // The run of a script that 9 to 11 do not refuse, command by command: each is "tried before a command changes anything", and "a refused one
 // ends the run".
+#[inline(never)]
 fn run_script(f: Frame, s: &[u8], script: &[u8], log: &mut [u32], revealed: &mut [u32]) -> Answer
     requires { Running s.now f script.now }
     ensures { Reaches (setting_in f) log.old revealed.old (Run.stop_of f.opening.present s.now (length log.old) (length revealed.old)) result log.new revealed.new }
@@ -55,6 +57,7 @@ fn run_script(f: Frame, s: &[u8], script: &[u8], log: &mut [u32], revealed: &mut
 }
 
 // "Nothing is run": all registers unset, all counts 0.
+#[inline(never)]
 fn refused(number: u32, place: usize) -> Answer
     ensures { RefusedWith number place result }
 {
@@ -76,6 +79,7 @@ fn refusal(read: Read) -> u32
 }
 
 // The run of a sheet that 1 to 8 and 12 do not refuse: 9 to 11 are tried on its script, which ends where the input rows start.
+#[inline(never)]
 fn run_sheet(f: Frame, sheet: &[u8], log: &mut [u32], revealed: &mut [u32]) -> Answer
     requires { Unrefused sheet.now f }
     ensures { outcome_of result log.new revealed.new ≡ Run.run f.opening.present sheet.now log.old revealed.old }
@@ -91,6 +95,7 @@ fn run_sheet(f: Frame, sheet: &[u8], log: &mut [u32], revealed: &mut [u32]) -> A
 }
 
 // The run of a sheet with a number for the byte that says who is present.
+#[inline(never)]
 fn run_with(sheet: &[u8], present: u32, log: &mut [u32], revealed: &mut [u32]) -> Answer
     ensures { outcome_of result log.new revealed.new ≡ Run.run present sheet.now log.old revealed.old }
 {

@@ -1,4 +1,5 @@
 // The commands that rest on MOD: MOD, TRUNC, LTZ, OVER, BLOCKS and LTZS.
+// Those of a table are not inlined, so that the frame of their caller does not hold the tables of all of them.
 ghost use Rattle.std.specs.Prelude.{◌≡◌, ◌<◌, length};
 ghost use Rattle.model.specs.Script.{LTZ, LTZS};
 ghost use Rattle.costs.specs.Costing.{counts_of};
@@ -80,6 +81,7 @@ fn signs_in(
 
 impl Table {
     // A cut of register a goes to register d.
+    #[inline(never)]
     pub fn cut(
         self,
         setting: Setting,
@@ -98,6 +100,7 @@ impl Table {
     }
 
     // LTZS d a h k. The cells are copied out and back, once for all signs, since those of a table cannot be lent to be written.
+    #[inline(never)]
     pub fn signs(
         mut self,
         f: Frame,

@@ -1,4 +1,5 @@
 // The commands that open nothing: LOAD, CONST, ADD, SUB and SCALE.
+// They are not inlined, so that the frame of their caller does not hold the tables of all of them.
 ghost use Rattle.std.specs.Prelude.{◌≡◌, ◌+◌, ◌*◌, ◌≤◌, ◌<◌, length};
 ghost use Rattle.model.specs.Bytes as Bytes;
 ghost use Rattle.model.specs.Steps as Steps;
@@ -14,6 +15,7 @@ use sheet::frame::Frame;
 
 impl Table {
     // LOAD d: the next input row
+    #[inline(never)]
     pub fn load(self, f: Frame, s: &[u8], d: usize) -> Table
         requires { (f.n ≤ 7) × (input_place f (counts_of self.spent.counts) + 4 * f.n ≤ length s.now) × (d < 64) }
         ensures { Stored d (λ z. z ≡ Bytes.row_at s.now f.n (input_place f (counts_of self.spent.counts))) self.cells result.cells × (result.spent ≡ self.spent) }
@@ -24,6 +26,7 @@ impl Table {
     }
 
     // CONST d v
+    #[inline(never)]
     pub fn fill(self, setting: Setting, d: usize, v: u32) -> Table
         requires { Fitting setting × (d < 64) }
         ensures { Stored d (λ z. z ≡ Steps.constant (setting_of setting) v) self.cells result.cells × (result.spent ≡ self.spent) }
@@ -32,6 +35,7 @@ impl Table {
     }
 
     // ADD d a b
+    #[inline(never)]
     pub fn add(self, setting: Setting, d: usize, a: usize, b: usize) -> Table
         requires { Fitting setting × (d < 64) × (a < 64) × (b < 64) }
         ensures { Stored d (λ z. z ≡ Steps.plus (setting_of setting) (register_in self.cells a) (register_in self.cells b)) self.cells result.cells × (result.spent ≡ self.spent) }
@@ -43,6 +47,7 @@ impl Table {
     }
 
     // SUB d a b
+    #[inline(never)]
     pub fn sub(self, setting: Setting, d: usize, a: usize, b: usize) -> Table
         requires { Fitting setting × (d < 64) × (a < 64) × (b < 64) }
         ensures { Stored d (λ z. z ≡ Steps.minus (setting_of setting) (register_in self.cells a) (register_in self.cells b)) self.cells result.cells × (result.spent ≡ self.spent) }
@@ -54,6 +59,7 @@ impl Table {
     }
 
     // SCALE d a v
+    #[inline(never)]
     pub fn scale(self, setting: Setting, d: usize, a: usize, v: u32) -> Table
         requires { Fitting setting × (d < 64) × (a < 64) }
         ensures { Stored d (λ z. z ≡ Steps.times (setting_of setting) v (register_in self.cells a)) self.cells result.cells × (result.spent ≡ self.spent) }

@@ -1,4 +1,5 @@
 // The commands that open shares and take no mask: MUL, BITLT and REVEAL.
+// They are not inlined, so that the frame of their caller does not hold the tables of all of them.
 ghost use Rattle.std.specs.Prelude.{◌≡◌, ◌+◌, ◌-◌, ◌*◌, ◌≤◌, ◌<◌, length, drop};
 ghost use Rattle.algebra.specs.Lists.{Below};
 ghost use Rattle.model.specs.Bytes as Bytes;
@@ -33,6 +34,7 @@ fn comparison_from(
 
 impl Table {
     // MUL d a b
+    #[inline(never)]
     pub fn multiply(
         self,
         setting: Setting,
@@ -53,6 +55,7 @@ impl Table {
     }
 
     // BITLT d b w v
+    #[inline(never)]
     pub fn compare(
         self,
         setting: Setting,
@@ -72,6 +75,7 @@ impl Table {
     }
 
     // REVEAL a: one opening, and its value goes to the revealed list's next place.
+    #[inline(never)]
     pub fn reveal(
         self,
         setting: Setting,
