@@ -1,6 +1,6 @@
 /* Jundrethol: Shamir shares, scripts that work on them, forecasts of whether a script would come to its end, replays of one party's column from
  * its own shares and the record of a run, calls from an exchange's list, and sheets turned so that each party's shares stand together, for C on
- * x86-64 Linux.
+ * Linux on x86-64 processors of level v2.
  *
  * Link target/staticlib/libjundrethol.a, which `bash programs/build jundrethol` writes. Each function is proved to give exactly the answer that its
  * contract in crates/jundrethol/src/lib.rt fixes, to end, and not to fault, whatever the numbers, the bytes and the lengths are. Nothing is
@@ -17,6 +17,7 @@
  * What the archive asks of a program that links it was measured, see docs/LINKING.md:
  *   - memcpy and memset, and no other symbol;
  *   - JUNDRETHOL_STACK bytes of stack, and for jundrethol_replay JUNDRETHOL_REPLAY_STACK;
+ *   - a processor of level x86-64-v2, with SSE4.2 and POPCNT; no function asks whether it is one;
  *   - nothing of where it is placed: it is position independent, for executables and shared objects alike.
  *
  * The fields, by number: 0 is p = 13, 1 is 251, 2 is 65521, 3 is 2147483647; the largest k is 3, 7, 15, 30.
