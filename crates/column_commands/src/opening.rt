@@ -1,5 +1,5 @@
 // The commands that open shares, but for LTZS: MUL, BITLT, the cuts, and REVEAL.
-// They are not inlined, so that the frame of their caller does not hold the tables of all of them.
+// What other files call is not inlined, so that the frame of the caller does not hold the tables of all commands.
 ghost use Rattle.std.specs.Prelude.{◌≡◌, ◌+◌, ◌-◌, ◌*◌, ◌≤◌, ◌<◌, length, drop};
 ghost use Rattle.model.specs.Bytes as Bytes;
 ghost use Rattle.model.specs.Costs.{mod_triples};

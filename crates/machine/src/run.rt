@@ -1,5 +1,5 @@
 // The run of a sheet.
-// What answers with a table is not inlined, so that the frame of its caller does not hold its tables too.
+// What `run` rests on and answers with a table is not inlined, so that the frame of its caller does not hold its tables too.
 ghost use Rattle.std.specs.Prelude.{◌≡◌, length};
 ghost use Rattle.model.specs.Run as Run;
 ghost use Rattle.sheet.specs.Framed.{setting_in};
