@@ -1,7 +1,8 @@
 -- Laws of `Below`, `from`, `total`, `onto` and `onto_at`.
 -- Assumes nothing.
 use mathlib.Core.Path.{◌≡◌, refl, sym, ap, subst, ◌∙◌}
-use mathlib.Core.Bool.{true, false}
+use mathlib.Core.Bool.{true, false, ◌&&◌}
+use Rattle.std.specs.List.{list_all}
 use mathlib.Core.Logic.{◌↔◌}
 use mathlib.Core.List.Memᴰ.{head as here}
 use mathlib.Core.List.Memᴰ.{tail as there}
@@ -259,3 +260,9 @@ module _ {i : ℕ} {vs xs : List ℕ} {n j : ℕ} {l : List ℕ} (W : WritingAt 
   writing_at_length =
       let s : length (take i xs) ≡ i = length-take-le i xs (omega arith) in
       ap length W.is ∙ rw (length-append, s, writing_length W.writing hv room_behind, length-drop) (omega arith)
+
+-- the test as the library has it
+pub below_listed : (p : ℕ) (xs : List ℕ) → list_all (λ x. ltb x p) xs ≡ all_below p xs
+unfolding all_below
+below_listed p [] = refl
+below_listed p (x ∷ xs) = ap (λ b. ltb x p && b) (below_listed p xs)

@@ -1,7 +1,7 @@
 // The secret of a row, as the remainder of a weighted sum, and the test that a row is a sharing.
 #![tactic(auto)]
 
-ghost use Rattle.std.specs.Prelude.{◌≡◌, ◌+◌, ◌%◌, ◌^◌, ◌≤◌, ◌<◌, get_or};
+ghost use Rattle.std.specs.Prelude.{◌≡◌, ℕ, ◌+◌, ◌%◌, ◌^◌, ◌≤◌, ◌<◌, get_or};
 ghost use Rattle.algebra.specs.Lists.{from, all_below};
 ghost use Rattle.algebra.specs.Rows as Rows;
 ghost use Rattle.model.specs.Fields as Fields;
@@ -11,6 +11,21 @@ ghost use Rattle.model.specs.Sharing as Sharing;
 #[derive(Clone, Copy)]
 pub struct Row {
     pub shares: [u32; 7],
+}
+
+impl Row {
+    // The row whose share of column j is share(j), in the first n columns.
+    pub fn of<F: Fn(usize) -> u32>(n: usize, share: F) -> Row
+        requires columns { n ≤ 7 }
+        requires callable { (j : ℕ) → j < n → F.pre share j }
+        ensures { (f : ℕ → ℕ) → ((j v : ℕ) → j < n → F.post share j v → v ≡ f j) → result.shares ≡ Rows.row n f }
+    {
+        let mut shares = [0u32; 7];
+        for j in 0..n {
+            shares[j] = share(j);
+        }
+        Row { shares }
+    }
 }
 
 pub fn wide(x: u32) -> u64

@@ -14,14 +14,7 @@ use secret::Row;
 pub fn all_below(p: u32, xs: &[u32]) -> bool
     ensures { result ≡ Lists.all_below p xs.now }
 {
-    let mut i = 0;
-    while i < xs.len() {
-        if p <= xs[i] {
-            return false;
-        }
-        i += 1;
-    }
-    true
+    xs.iter().all(|&x| x < p)
 }
 
 // A list of at most seven shares as a row.
@@ -30,10 +23,8 @@ pub fn gather(xs: &[u32]) -> Row
     ensures { result.shares ≡ Rows.padded xs.now }
 {
     let mut shares = [0u32; 7];
-    let mut j = 0;
-    while j < xs.len() {
-        shares[j] = xs[j];
-        j += 1;
+    for (j, &x) in xs.iter().enumerate() {
+        shares[j] = x;
     }
     Row { shares }
 }
@@ -83,58 +74,44 @@ pub fn put_shares(list: &mut [u32], at: usize, row: Row, n: usize)
     }
 }
 
+#[tactic(auto, unfolding(model::specs::Steps::plus))]
 pub fn add_rows(setting: Setting, a: Row, b: Row) -> Row
     requires { Fitting setting }
     ensures { result.shares ≡ Steps.plus (setting_of setting) a.shares b.shares }
 {
-    let mut shares = [0u32; 7];
-    let mut j = 0;
-    while j < setting.n {
-        shares[j] = arithmetic::add(setting.p, a.shares[j], b.shares[j]);
-        j += 1;
-    }
-    Row { shares }
+    Row::of(
+        setting.n,
+        |j| arithmetic::add(setting.p, a.shares[j], b.shares[j]),
+    )
 }
 
+#[tactic(auto, unfolding(model::specs::Steps::minus))]
 pub fn sub_rows(setting: Setting, a: Row, b: Row) -> Row
     requires { Fitting setting }
     ensures { result.shares ≡ Steps.minus (setting_of setting) a.shares b.shares }
 {
-    let mut shares = [0u32; 7];
-    let mut j = 0;
-    while j < setting.n {
-        shares[j] = arithmetic::sub(setting.p, a.shares[j], b.shares[j]);
-        j += 1;
-    }
-    Row { shares }
+    Row::of(
+        setting.n,
+        |j| arithmetic::sub(setting.p, a.shares[j], b.shares[j]),
+    )
 }
 
 // A row times a public value.
+#[tactic(auto, unfolding(model::specs::Steps::times))]
 pub fn scale_row(setting: Setting, c: u32, a: Row) -> Row
     requires { Fitting setting }
     ensures { result.shares ≡ Steps.times (setting_of setting) c a.shares }
 {
-    let mut shares = [0u32; 7];
-    let mut j = 0;
-    while j < setting.n {
-        shares[j] = arithmetic::mul(setting.p, c, a.shares[j]);
-        j += 1;
-    }
-    Row { shares }
+    Row::of(setting.n, |j| arithmetic::mul(setting.p, c, a.shares[j]))
 }
 
 // The row whose every share is v.
+#[tactic(auto, unfolding(model::specs::Steps::constant))]
 pub fn constant_row(setting: Setting, v: u32) -> Row
     requires { Fitting setting }
     ensures { result.shares ≡ Steps.constant (setting_of setting) v }
 {
-    let mut shares = [0u32; 7];
-    let mut j = 0;
-    while j < setting.n {
-        shares[j] = v;
-        j += 1;
-    }
-    Row { shares }
+    Row::of(setting.n, |_| v)
 }
 
 // a + c·b, in one pass: what spelled numbers and MOD's last line are made of.
