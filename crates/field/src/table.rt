@@ -2,6 +2,9 @@
 ghost use Rattle.std.specs.Prelude.{◌≡◌, ◌<◌};
 ghost use Rattle.model.specs.Fields as Fields;
 ghost use Rattle.model.specs.Refusing.{first_failed};
+ghost use Rattle.refusals.specs.Numbers.{told};
+
+use refusals::Refusal;
 
 // Three to a field: p, its bit length, and the largest k.
 const FIELDS: [u32; 12] = [13, 4, 3, 251, 8, 7, 65521, 16, 15, 2147483647, 31, 30];
@@ -19,11 +22,16 @@ pub fn in_use(field: u32) -> bool
     field < 4
 }
 
-// The refusal of a field's number: 2, or 0.
-pub fn field_number(field: u32) -> u32
-    ensures { result ≡ first_failed (Fields.field_tests field) }
+// 2 where a field is not in use.
+#[tactic(auto, using(model::proofs::Trying::trying), unfolding(model::specs::Fields::field_tests))]
+pub fn known(field: u32) -> Result<(), Refusal>
+    ensures { told result ≡ first_failed (Fields.field_tests field) }
 {
-    if in_use(field) { 0 } else { 2 }
+    if in_use(field) {
+        Ok(())
+    } else {
+        Err(Refusal::BadField)
+    }
 }
 
 pub fn modulus(field: usize) -> u32
