@@ -51,12 +51,10 @@ pub fn put_coefficients(field: usize, t: usize, row: Row, constant: u32, out: &m
 {
     let mut rest = row;
     let mut c = constant;
-    let mut k = 0;
-    while k < t {
+    for k in 0..t {
         let e = t - k;
         rest = take_off(field, e, rest, c);
         c = secret::value_before(table::modulus(field), e, rest, 0);
         out[k] = c;
-        k += 1;
     }
 }

@@ -62,10 +62,8 @@ pub fn put_shares(list: &mut [u32], at: usize, row: Row, n: usize)
     requires { (n ≤ 7) × (at + n ≤ length list.old) }
     ensures { list.new ≡ Lists.onto_at at (take n row.shares) list.old }
 {
-    let mut j = 0;
-    while j < n {
+    for j in 0..n {
         list[at + j] = row.shares[j];
-        j += 1;
     }
 }
 
