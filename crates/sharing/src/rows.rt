@@ -114,7 +114,10 @@ pub fn add_scaled(setting: Setting, a: Row, c: u32, b: Row) -> Row
     ensures { result.shares ≡ Steps.plus (setting_of setting) a.shares (Steps.times (setting_of setting) c b.shares) }
 {
     let p = setting.p;
-    Row::of(setting.n, |j| arithmetic::add(p, a.shares[j], arithmetic::mul(p, c, b.shares[j])))
+    Row::of(
+        setting.n,
+        |j| arithmetic::add(p, a.shares[j], arithmetic::mul(p, c, b.shares[j])),
+    )
 }
 
 // a + v, in one pass.
