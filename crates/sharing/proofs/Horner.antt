@@ -1,26 +1,35 @@
 -- Horner's rule as a loop has it, from the last coefficient to the first.
 -- Assumes nothing.
-use mathlib.Core.Path.{◌≡◌}
-use mathlib.Core.List.{List, ◌∷◌}
-use Prim.Native.Nat.{ℕ, zero, suc, ◌-◌, ◌≤◌, ◌<◌}
+use mathlib.Core.Path.{◌≡◌, refl}
+use mathlib.Core.List.{List, [], ◌∷◌, ◌++◌}
+use Prim.Native.Nat.{ℕ}
 use native.Mathlib.Omega.{arith}
-use lib.ListN.{length, get_or, drop}
-use lib.Seq.{drop-cons, drop-length}
+use lib.ListN.{length}
 use Rattle.algebra.specs.Ring.{add, mul}
 use Rattle.model.specs.Sharing.{eval}
 
-pub horner_start : (p : ℕ) (cs : List ℕ) (x : ℕ) → 0 ≡ eval p (drop (length cs) cs) x
-unfolding eval
-horner_start p cs x = rw drop-length
+-- the value at x of the polynomial whose first coefficients are cs, where those after them give the value r
+unfoldable pub onward : ℕ → ℕ → List ℕ → ℕ → ℕ
+onward p x [] r = r
+onward p x (c ∷ cs) r = add p c (mul p x (onward p x cs r))
 
--- one coefficient more
-pub horner : (p : ℕ) (cs : List ℕ) (i x : ℕ) {r m s : ℕ} → 0 < i → i ≤ length cs → r ≡ eval p (drop i cs) x → m ≡ mul p x r
-    → s ≡ add p (get_or cs (i - 1) 0) m → s ≡ eval p (drop (i - 1) cs) x
-unfolding eval
-horner p cs zero x k l a d e = absurd (omega arith)
-horner p cs (suc i) x k l a d e = let q : suc i - 1 ≡ i = omega arith in rw (q, drop-cons cs i 0 l) (cc)
+module _ (p x : ℕ) where
+  pub horner_start : (cs : List ℕ) → onward p x cs 0 ≡ eval p cs x
+  unfolding onward eval
+  horner_start [] = refl
+  horner_start (c ∷ cs) = rw (horner_start cs)
 
--- and the constant term
-pub horner_end : (p : ℕ) (cs : List ℕ) (i x c : ℕ) {r m s : ℕ} → i ≡ 0 → r ≡ eval p (drop i cs) x → m ≡ mul p x r → s ≡ add p c m → s ≡ eval p (c ∷ cs) x
-unfolding eval
-horner_end p cs i x c z a d e = let q = rw z at a in cc
+  onward_last : (cs : List ℕ) (c r : ℕ) → onward p x (cs ++ (c ∷ [])) r ≡ onward p x cs (add p c (mul p x r))
+  unfolding onward
+  onward_last [] c r = refl
+  onward_last (d ∷ cs) c r = rw (onward_last cs c r)
+
+  -- one coefficient more
+  pub horner : (cs front : List ℕ) (c r v : ℕ) {m s : ℕ} → onward p x cs r ≡ v → cs ≡ front ++ (c ∷ []) → m ≡ mul p x r → s ≡ add p c m → onward p x front s ≡ v
+  horner cs front c r v k e d q = rw (q, d, ← onward_last front c r, ← e) k
+
+  -- and the constant term
+  pub horner_end : (cs left : List ℕ) (c r : ℕ) {m s : ℕ} → onward p x left r ≡ eval p cs x → length left ≡ 0 → m ≡ mul p x r → s ≡ add p c m → s ≡ eval p (c ∷ cs) x
+  unfolding onward eval
+  horner_end cs [] c r k z d q = cc
+  horner_end cs (l ∷ left) c r k z d q = absurd (omega arith)

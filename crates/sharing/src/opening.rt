@@ -12,12 +12,13 @@ use presence::Point;
 use secret::Row;
 
 // A party's weight times its share.
+#[tactic(auto, using(secret::proofs::Testing::at_place, crate::proofs::Opened::product_fits))]
 fn term(point: Point, row: Row) -> u64
     requires { (1 ≤ point.party) × (point.party ≤ 7) }
     ensures { result ≡ point.weight * Sharing.at 0 row.shares point.party }
 {
     let party = point.party as usize;
-    secret::wide(point.weight) * secret::wide(row.shares[party - 1])
+    u64::from(point.weight) * u64::from(row.shares[party - 1])
 }
 
 // The sum before reducing, of the shares of the lowest t + 1 present parties: each times its weight below p, added. Shares below p are asked for, since
@@ -54,9 +55,9 @@ pub fn put_opened(setting: Setting, list: &mut [u32], at: usize, row: Row)
     let opening = setting.opening;
     if presence::all_present(setting.n, opening.present) {
         rows::put_shares(list, at, row, setting.n);
-        return;
+    } else {
+        put_marked(setting, list, at, row);
     }
-    put_marked(setting, list, at, row);
 }
 
 // The same, share by share.

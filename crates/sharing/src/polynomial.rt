@@ -14,10 +14,8 @@ fn value_at(p: u32, constant: u32, coefficients: &[u32], x: u32) -> u32
     ensures { (result ≡ Sharing.eval p (constant ∷ coefficients.now) x) × (result < p) }
 {
     let mut r: u32 = 0;
-    let mut i = coefficients.len();
-    while i > 0 {
-        i -= 1;
-        r = arithmetic::add(p, coefficients[i], arithmetic::mul(p, x, r));
+    for &c in coefficients.iter().rev() {
+        r = arithmetic::add(p, c, arithmetic::mul(p, x, r));
     }
     arithmetic::add(p, constant, arithmetic::mul(p, x, r))
 }
