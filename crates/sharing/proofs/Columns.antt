@@ -1,14 +1,13 @@
 -- Rows column by column: their shares, and one read from seven cells.
 -- Assumes nothing.
 use mathlib.Core.Path.{◌≡◌, sym, ◌∙◌}
-use mathlib.Core.List.{List, [], ◌∷◌}
+use mathlib.Core.List.{List, append-nil}
 use Prim.Native.Nat.{ℕ, ◌+◌, ◌≤◌, ◌<◌}
-use native.Mathlib.Nat.{add-zero}
 use native.Mathlib.Omega.{arith}
 use lib.ListN.{length, get_or, take, drop, length-drop}
 use lib.Seq.{get_or-take, get_or-drop, length-take-le}
 use Rattle.algebra.specs.Ring.{add, mul}
-use Rattle.algebra.specs.Rows.{tab}
+use Rattle.algebra.specs.Rows.{row}
 use Rattle.algebra.proofs.Rows.{is_tab, row_at_lem}
 use Rattle.model.specs.Steps.{Setting, Row, plus, times, constant}
 
@@ -27,10 +26,8 @@ module _ (S : Setting) (j : ℕ) where
   constant_at v h = row_at_lem S.n _ j h
 
 -- seven cells of a list, one after the other
-pub cells_seven : (cells : List ℕ) (i : ℕ) → i + 7 ≤ length cells
-    → get_or cells i 0 ∷ get_or cells (i + 1) 0 ∷ get_or cells (i + 2) 0 ∷ get_or cells (i + 3) 0 ∷ get_or cells (i + 4) 0 ∷ get_or cells (i + 5) 0 ∷ get_or cells (i + 6) 0 ∷ []
-    ≡ take 7 (drop i cells)
-unfolding tab
+pub cells_seven : (cells : List ℕ) (i : ℕ) → i + 7 ≤ length cells → row 7 (λ j. get_or cells (i + j) 0) ≡ take 7 (drop i cells)
+unfolding row
 cells_seven cells i h =
     let e : length (take 7 (drop i cells)) ≡ 7 = length-take-le 7 (drop i cells) (rw length-drop (omega arith)) in
-    sym (is_tab 7 (λ j. get_or cells (i + j) 0) (take 7 (drop i cells)) e (λ j k. rw (get_or-take, get_or-drop)) ∙ rw add-zero)
+    append-nil _ ∙ sym (is_tab 7 (λ j. get_or cells (i + j) 0) (take 7 (drop i cells)) e (λ j k. rw (get_or-take, get_or-drop)))

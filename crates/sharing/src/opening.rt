@@ -33,6 +33,7 @@ fn opened_sum(setting: Setting, row: Row) -> u64
 }
 
 // The value at 0 that these shares give.
+#[tactic(auto, using(crate::proofs::Opened::value_reduced))]
 pub fn opened_value(setting: Setting, row: Row) -> u32
     requires { Fitting setting × Lists.Below setting.p row.shares }
     ensures { (result ≡ Steps.value (setting_of setting) row.shares) × (result < setting.p) }

@@ -43,18 +43,7 @@ pub fn cell_row(cells: &[u32], k: usize) -> Row
     requires { 7 * k + 7 ≤ length cells.now }
     ensures { result.shares ≡ take 7 (drop (7 * k) cells.now) }
 {
-    let i = 7 * k;
-    Row {
-        shares: [
-            cells[i],
-            cells[i + 1],
-            cells[i + 2],
-            cells[i + 3],
-            cells[i + 4],
-            cells[i + 5],
-            cells[i + 6],
-        ],
-    }
+    Row::of(7, |j| cells[7 * k + j])
 }
 
 // The row's first n shares go to the list, from a place on.
