@@ -93,6 +93,7 @@ pub fn lowest(n: usize, e: usize, present: u32) -> Found
 }
 
 // Whether no bit beyond n is set and at least t + 1 parties are present. Everyone is the common case, and needs no search.
+#[tactic(auto, using(crate::proofs::Presences::everyone_may, crate::proofs::Presences::permits, crate::proofs::Presences::bits_beyond))]
 pub fn permitted(n: usize, t: usize, present: u32) -> bool
     requires { (n ≤ 7) × (t ≤ 3) × (t < n) }
     ensures { result ≡ Presence.permitted_set n t present }
@@ -117,6 +118,7 @@ pub fn weight(p: u32, e: usize, x: usize) -> u32
 }
 
 // z/(z − x) for another party z.
+#[tactic(auto, using(model::proofs::Fields::below_four, crate::proofs::Presences::modulus_of, crate::proofs::Presences::ratio_other))]
 fn ratio(field: usize, p: u32, x: usize, z: usize) -> u32
     requires { Fields.InUse field × (p ≡ Fields.modulus field) × (x < 8) × (z < 8) × (z ≢ x) }
     ensures { result ≡ Sharing.ratio p x z }
