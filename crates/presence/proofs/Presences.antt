@@ -58,6 +58,9 @@ module _ (b j : ℕ) where
   none_more : (b / 2 ^ j % 2 ≡ 1 → ⊥) → present_in b (from 1 (suc j)) ≡ present_in b (from 1 j)
   none_more e = more ∙ ap (λ (l : List ℕ). present_in b (from 1 j) ++ l) {y = []} (unfold present_in in rw (bit_left b j, ne_eqb (b / 2 ^ j % 2) 1 e)) ∙ append-nil (present_in b (from 1 j))
 
+pub shifted : (b j : ℕ) → b / 2 ^ j / 2 ≡ b / 2 ^ suc j
+shifted b j = rw (div-div-eq-div-mul, pow-suc 2 j)
+
 pub below_set : {p : ℕ} (l : List ℕ) (i : ℕ) {v : ℕ} → Below p l → v < p → Below p (set l i v)
 below_set [] i B h = B
 below_set (x ∷ xs) zero B h = below_cons h (below_tail B)
