@@ -14,12 +14,9 @@ pub fn put_rows(n: usize, s: &[u8], i: usize, count: usize, cells: &mut [u32])
     requires { (n ≤ 7) × (i + count * (4 * n) ≤ length s.now) × (7 * count ≤ length cells.old) }
     ensures { (Bytes.sevens count cells.new ≡ Sheet.rows_at s.now n i count) × (drop (7 * count) cells.new ≡ drop (7 * count) cells.old) }
 {
-    let mut from = i;
-    let mut k = 0;
-    while k < count {
-        rows::put_shares(cells, 7 * k, rows::read_row(s, n, from), 7);
-        from = from + 4 * n;
-        k += 1;
+    for k in 0..count {
+        let row = rows::read_row(s, n, i + k * (4 * n));
+        rows::put_shares(cells, 7 * k, row, 7);
     }
 }
 
@@ -29,9 +26,7 @@ pub fn spelled_row(setting: Setting, w: usize, cells: &[u32]) -> Row
     ensures { result.shares ≡ Steps.spelled (setting_of setting) (Bytes.sevens w cells.now) }
 {
     let mut r = rows::constant_row(setting, 0);
-    let mut k = w;
-    while k > 0 {
-        k -= 1;
+    for k in (0..w).rev() {
         r = rows::add_scaled(setting, rows::cell_row(cells, k), 2, r);
     }
     r

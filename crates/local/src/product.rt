@@ -14,13 +14,9 @@ pub fn beaver(setting: Setting, a1: u32, b1: u32, a: Row, b: Row, c: Row) -> Row
 {
     let p = setting.p;
     let both = arithmetic::mul(p, a1, b1);
-    let mut shares = [0u32; 7];
-    let mut j = 0;
-    while j < setting.n {
+    Row::of(setting.n, |j| {
         let x = arithmetic::add(p, c.shares[j], arithmetic::mul(p, a1, b.shares[j]));
         let y = arithmetic::add(p, x, arithmetic::mul(p, b1, a.shares[j]));
-        shares[j] = arithmetic::add(p, y, both);
-        j += 1;
-    }
-    Row { shares }
+        arithmetic::add(p, y, both)
+    })
 }
