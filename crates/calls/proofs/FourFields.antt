@@ -2,10 +2,8 @@
 -- Assumes nothing.
 use Rattle.std.proofs.Common.{Option, Some, None}
 use mathlib.Core.Path.{◌≡◌, refl, sym, ap, ◌∙◌}
-use mathlib.Core.Bool.{cond}
 use mathlib.Core.List.{List, [], ◌∷◌, ◌++◌}
 use Prim.Native.Nat.{ℕ, suc}
-use lib.ListN.{drop}
 use Rattle.model.specs.Calls as Calls
 use Rattle.model.specs.Calls.{field, line_at}
 use Rattle.calls.specs.declared.field.Field.{Field}

@@ -1,7 +1,7 @@
 -- One line: its number, its call and the text after it, by what was read.
 -- Assumes nothing.
 use Rattle.std.proofs.Common.{Option, Some, None, Ok, Err}
-use mathlib.Core.Path.{◌≡◌, refl, sym, ap, ◌∙◌}
+use mathlib.Core.Path.{◌≡◌, refl, sym, ◌∙◌}
 use mathlib.Core.Logic.{◌≢◌}
 use mathlib.Core.List.{List}
 use Prim.Native.Nat.{ℕ, zero, suc, ◌+◌, ◌-◌, ◌≤◌}
@@ -13,7 +13,7 @@ use Rattle.model.specs.Calls.{found, lasted, line_at, line_number}
 use Rattle.model.specs.Refusing.{first_failed}
 use Rattle.refusals.specs.declared.Refusal.TheVariants.{BadLine, BadTime, SecondsFull}
 use Rattle.calls.specs.declared.line.Line.{Line}
-use Rattle.calls.specs.Meaning.{call_of, line_of, Turned}
+use Rattle.calls.specs.Meaning.{line_of, Turned}
 use Rattle.calls.proofs.Fields.{rest_from}
 
 module _ (list : List ℕ) (at room : ℕ) (r : Option Line)

@@ -1,4 +1,4 @@
-use Rattle.std.proofs.Common.{rules, arith}
+use Rattle.std.proofs.Common.{rules}
 use Rattle.calls.proofs.Fields.{within, comma, no_comma}
 use Rattle.calls.proofs.field.read_next.Goals as goal
 
