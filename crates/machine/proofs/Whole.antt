@@ -1,6 +1,6 @@
 -- The run of a sheet by its frame: the paper's run of the accepted sheet, what is known of the states that it passes through, and the answer.
 -- Assumes nothing.
-use Rattle.std.specs.Prelude.{Result, Ok, Err}
+use Rattle.std.specs.Prelude.{Ok, Err}
 use mathlib.Core.Path.{◌≡◌, refl, sym, ap, subst, ◌∙◌}
 use mathlib.Core.Logic.{◌≢◌}
 use mathlib.Core.Bool.{Bool, true, false}
@@ -11,8 +11,7 @@ use lib.ListN.{length, get_or, drop, replicate}
 use Rattle.algebra.specs.Lists.{Below, onto}
 use Rattle.algebra.proofs.Lists.{below_nil, below_cons}
 use Rattle.refusals.specs.declared.Refusal.{Refusal}
-use Rattle.refusals.specs.declared.Refused.{Refused}
-use Rattle.refusals.specs.Numbers.{number_of, told}
+use Rattle.refusals.specs.Numbers.{number_of}
 use Rattle.refusals.proofs.Numbers.{numbered}
 use Rattle.model.specs.Bytes.{sevens}
 use Rattle.model.specs.Deal.{Setting, Row, Deal, no_row}
@@ -143,6 +142,10 @@ module _ (present : ℕ) (s : List ℕ) where
     -- the run with the byte of the frame is the run with this byte
     pub with_byte : {o : Outcome} (log₀ shown₀ : List ℕ) → o ≡ run f.opening.present s log₀ shown₀ → o ≡ run present s log₀ shown₀
     with_byte log₀ shown₀ e = e ∙ ap (λ (b : ℕ). run b s log₀ shown₀) h.1.1
+
+-- the same byte, as a number
+pub same_byte : {b b' : ℕ} {o : Outcome} (s log₀ shown₀ : List ℕ) → b ≡ b' → o ≡ run b s log₀ shown₀ → o ≡ run b' s log₀ shown₀
+same_byte s log₀ shown₀ q e = e ∙ ap (λ (b : ℕ). run b s log₀ shown₀) q
 
 -- a sheet is accepted where neither the sheet nor the script has a number
 accepted_sheet : (present : ℕ) (s : List ℕ) → sheet_number present s ≡ 0 → (x : Script) → sheet_script s ≡ x → script_number x ≡ 0 → Accepted present s
