@@ -40,11 +40,7 @@ impl Table {
         ensures { (result.cells ≡ onto_at (7 * d) row.shares self.cells) × (result.spent ≡ self.spent) }
     {
         let i = 7 * d;
-        let mut j = 0;
-        while j < 7 {
-            self.cells[i + j] = row.shares[j];
-            j += 1;
-        }
+        self.cells[i..i + 7].copy_from_slice(&row.shares);
         self
     }
 
