@@ -49,9 +49,7 @@ impl Table {
         requires { Summing self.spent.counts need.counts × (need.target.from + need.target.size ≤ 64) }
         ensures { (result.cells ≡ self.cells) × (spent_of result.spent ≡ Checks.pay (cost_of need) (spent_of self.spent)) }
     {
-        let before = self.spent;
-        let after = spent::pay(before, need);
-        self.spent = after;
+        self.spent = spent::pay(self.spent, need);
         self
     }
 }
