@@ -6,6 +6,7 @@ use Prim.Native.Nat.{ℕ, zero, suc, ◌+◌, ◌-◌, ◌*◌, ◌≤◌, ◌<�
 use native.Mathlib.Omega.{arith}
 use lib.ListN.{length, get_or, set, take, drop, length-drop}
 use lib.Seq.{length-take-le, take_all, take_at, drop_at, drop-drop, drop-append-le, take-append-le, take-take, take-nil}
+use borrow.Rule.Slice.PartMut.{put_mid}
 use Rattle.algebra.specs.Lists.{onto, onto_at}
 use Rattle.model.specs.Bytes.{sevens}
 use Rattle.model.specs.Deal.{Row, no_row}
@@ -54,6 +55,11 @@ set_seven zero cells d x h k e = absurd (omega arith)
 set_seven (suc w) cells zero x h k e = rw (e, take_at x (drop 7 cells) 7 e, drop_at x (drop 7 cells) 7 e)
 set_seven (suc w) cells (suc d) x h k e =
     rw (first_seven cells d (onto x (drop (7 * suc d) cells)) (omega arith), others cells d x (omega arith), set_seven w (drop 7 cells) d x (omega arith) (rw (length-drop 7 cells) (omega arith)) e)
+
+-- a row of seven cells, written over as many
+pub row_over : (i : ℕ) (row cells : List ℕ) {part : List ℕ} → length row ≡ 7 → part ≡ row → put_mid i (i + 7 - i) cells part ≡ onto_at i row cells
+unfolding onto_at onto
+row_over i row cells seven e = let n : i + 7 - i ≡ length row = omega arith in rw (e, n)
 
 -- a row of seven cells, written share by share
 pub whole_row : (i : ℕ) (row cells : List ℕ) → length row ≤ 7 → onto_at i (take 7 row) cells ≡ onto_at i row cells

@@ -71,11 +71,9 @@ fn signs_in(
     ensures { OnCells s.now f (counts_of spent) (LTZS d a h k) cells.old log.old cells.new log.new }
 {
     let one = counts::of_mask(f.l, k - 1);
-    let mut i = 0;
-    while i < h {
+    for i in 0..h {
         sign_in(f, spent, s, log, cells, d + i, a + i, k);
         spent = counts::added(spent, one);
-        i += 1;
     }
 }
 
@@ -99,7 +97,7 @@ impl Table {
         self.put(d, row)
     }
 
-    // LTZS d a h k. The cells are copied out and back, once for all signs, since those of a table cannot be lent to be written.
+    // LTZS d a h k
     #[inline(never)]
     pub fn signs(
         mut self,
@@ -115,9 +113,7 @@ impl Table {
         ensures { (result.spent ≡ self.spent) × OnCells s.now f (counts_of self.spent.counts) (LTZS d a h k) self.cells log.old result.cells log.new }
     {
         let spent = self.spent.counts;
-        let mut cells = self.cells;
-        signs_in(f, spent, s, log, &mut cells[..], d, a, h, k);
-        self.cells = cells;
+        signs_in(f, spent, s, log, &mut self.cells[..], d, a, h, k);
         self
     }
 }

@@ -20,8 +20,7 @@ impl Table {
         requires { (f.n ≤ 7) × (input_place f (counts_of self.spent.counts) + 4 * f.n ≤ length s.now) × (d < 64) }
         ensures { Stored d (λ z. z ≡ Bytes.row_at s.now f.n (input_place f (counts_of self.spent.counts))) self.cells result.cells × (result.spent ≡ self.spent) }
     {
-        let counts = self.spent.counts;
-        let i = f.input + counts.inputs * (4 * f.n);
+        let i = f.input + self.spent.counts.inputs * (4 * f.n);
         self.put(d, rows::read_row(s, f.n, i))
     }
 

@@ -87,8 +87,7 @@ impl Table {
         requires { Fitting setting × (at.log + setting.n ≤ length log.old) × (self.spent.counts.revealed < length revealed.old) × (a < 64) × Below setting.p (register_in self.cells a) }
         ensures { Revealed setting at (register_in self.cells a) self.spent.counts.revealed log.old revealed.old log.new revealed.new × (result ≡ self) }
     {
-        let counts = self.spent.counts;
-        let j = counts.revealed;
+        let j = self.spent.counts.revealed;
         revealed[j] = opening::open_at(setting, at.log, log, register(&self.cells[..], a));
         self
     }

@@ -40,11 +40,7 @@ impl Table {
         ensures { (result.cells ≡ onto_at (7 * d) row.shares self.cells) × (result.spent ≡ self.spent) }
     {
         let i = 7 * d;
-        let mut j = 0;
-        while j < 7 {
-            self.cells[i + j] = row.shares[j];
-            j += 1;
-        }
+        self.cells[i..i + 7].copy_from_slice(&row.shares);
         self
     }
 
@@ -53,9 +49,7 @@ impl Table {
         requires { Summing self.spent.counts need.counts × (need.target.from + need.target.size ≤ 64) }
         ensures { (result.cells ≡ self.cells) × (spent_of result.spent ≡ Checks.pay (cost_of need) (spent_of self.spent)) }
     {
-        let before = self.spent;
-        let after = spent::pay(before, need);
-        self.spent = after;
+        self.spent = spent::pay(self.spent, need);
         self
     }
 }
