@@ -1,6 +1,6 @@
 -- What `find` answers, by the tests of header, length and output; and what the entries leave by it.
 -- Assumes nothing.
-use mathlib.Core.Path.{◌≡◌, refl, sym, ap, ◌∙◌}
+use mathlib.Core.Path.{◌≡◌, sym, ap, ◌∙◌}
 use mathlib.Core.Bool.{Bool, true, false}
 use mathlib.Core.List.{List, [], ◌++◌, append_assoc}
 use Prim.Native.Nat.{ℕ, ◌+◌, ◌*◌, ◌≤◌, ◌<◌}
@@ -15,10 +15,9 @@ use Rattle.model.specs.Columns.{shape_tests, output_tests, turn_tests, turn_numb
 use Rattle.model.proofs.Trying.{given_done, given_refused, passes, fails, nothing_left}
 use Rattle.refusals.specs.Numbers.{number_of}
 use Rattle.refusals.specs.declared.Refusal.{Refusal}
-use Rattle.refusals.proofs.Numbers.{numbered}
 use Rattle.sheet.specs.Framed.{Headed, Whole}
 use Rattle.sheet.proofs.Headers.{row_count, end_most}
-use Rattle.sheet.proofs.Answers.{whole, header, header_tests_numbered, refused_first, passed_first}
+use Rattle.sheet.proofs.Answers.{header, header_tests_numbered, refused_first, passed_first}
 use Rattle.sheet.specs.declared.frame.Frame.{Frame}
 use Rattle.column_form.specs.Laid.{LaidOut}
 use Rattle.column_form.specs.declared.layout.Layout.{Layout}
@@ -74,6 +73,6 @@ module _ (s out : List ℕ) (form : List ℕ → List ℕ) where
   unfolding output_left
   form_left z e = e ∙ sym (given_done (turn_number s out) _ out (sym z))
 
-  pub left_alone : (r : Refusal) → number_of r ≡ turn_number s out → out ≡ output_left form s out
+  pub left_alone : 0 < turn_number s out → out ≡ output_left form s out
   unfolding output_left
-  left_alone r e = sym (given_refused (turn_number s out) (onto (form s) out) out (λ z. omega (arith, numbered r)))
+  left_alone h = sym (given_refused (turn_number s out) (onto (form s) out) out (λ z. omega arith))

@@ -1,5 +1,5 @@
 use Rattle.std.proofs.Common.{rules}
-use mathlib.Core.Path.{refl, sym}
+use mathlib.Core.Path.{refl}
 use native.Mathlib.Omega.{arith}
 use Rattle.sheet.proofs.Headers.{row_count}
 use Rattle.sheet.proofs.Answers.{whole}
