@@ -1,7 +1,6 @@
 -- What a layout says of the bytes that are turned.
 -- Assumes nothing.
-use Rattle.std.specs.Prelude.{◌≡◌, Bool, List, ℕ, ◌+◌, ◌*◌, ◌≤◌, length}
-use Rattle.model.specs.Refusing.{first_failed}
+use Rattle.std.specs.Prelude.{◌≡◌, List, ℕ, ◌+◌, ◌*◌, ◌≤◌, length}
 use Rattle.model.specs.Sheet.{header_of, inputs_at, row_count}
 use Rattle.column_form.specs.declared.layout.Layout.{Layout}
 
@@ -15,8 +14,3 @@ pub record LaidOut (s : List ℕ) (room : ℕ) (r : Layout) : Type 0 where
   pub most : length s ≤ 59723
   pub most_rows : r.rows ≤ 2096
   pub most_parties : r.parties ≤ 7
-
--- the number of the first of some tests that fails; where none fails, `LaidOut`
-pub record Laid (tests : List (Bool × ℕ)) (s : List ℕ) (room : ℕ) (r : Layout) : Type 0 where
-  pub number : r.number ≡ first_failed tests
-  pub stands : r.number ≡ 0 → LaidOut s room r

@@ -8,25 +8,28 @@ mod shares;
 
 ghost use Rattle.std.specs.Prelude.{◌≡◌};
 ghost use Rattle.model.specs.Columns.{column_form, sheet_form, turn_number, output_left};
+ghost use Rattle.refusals.specs.Numbers.{told};
 
-// Writes a sheet's column form to the start of the output. Answers 0, or a refusal 1, 2, 3, 4 or 15.
-pub fn to_columns(sheet: &[u8], columns: &mut [u8]) -> u32
-    ensures { (result ≡ turn_number sheet.now columns.old) × (columns.new ≡ output_left column_form sheet.now columns.old) }
+use refusals::Refusal;
+
+// Writes a sheet's column form to the start of the output. Refuses 1, 2, 3, 4 or 15, and then nothing is written.
+#[tactic(auto, using(crate::proofs::Layouts::form_left, crate::proofs::Layouts::left_alone, refusals::proofs::Numbers::numbered))]
+pub fn to_columns(sheet: &[u8], columns: &mut [u8]) -> Result<(), Refusal>
+    ensures number { told result ≡ turn_number sheet.now columns.old }
+    ensures left { columns.new ≡ output_left column_form sheet.now columns.old }
 {
-    let found = layout::find(sheet, columns.len());
-    if found.number == 0 {
-        shares::turn_over(sheet, found, columns);
-    }
-    found.number
+    let found = layout::find(sheet, columns.len())?;
+    shares::turn_over(sheet, found, columns);
+    Ok(())
 }
 
-// Writes the sheet of a column form to the start of the output. Answers 0, or a refusal 1, 2, 3, 4 or 15.
-pub fn to_sheet(columns: &[u8], sheet: &mut [u8]) -> u32
-    ensures { (result ≡ turn_number columns.now sheet.old) × (sheet.new ≡ output_left sheet_form columns.now sheet.old) }
+// Writes the sheet of a column form to the start of the output. Refuses 1, 2, 3, 4 or 15, and then nothing is written.
+#[tactic(auto, using(crate::proofs::Layouts::form_left, crate::proofs::Layouts::left_alone, refusals::proofs::Numbers::numbered))]
+pub fn to_sheet(columns: &[u8], sheet: &mut [u8]) -> Result<(), Refusal>
+    ensures number { told result ≡ turn_number columns.now sheet.old }
+    ensures left { sheet.new ≡ output_left sheet_form columns.now sheet.old }
 {
-    let found = layout::find(columns, sheet.len());
-    if found.number == 0 {
-        shares::turn_back(columns, found, sheet);
-    }
-    found.number
+    let found = layout::find(columns, sheet.len())?;
+    shares::turn_back(columns, found, sheet);
+    Ok(())
 }
