@@ -2,7 +2,7 @@
 -- Assumes nothing.
 use mathlib.Core.Path.{◌≡◌, refl, sym, ap, subst, ◌∙◌}
 use mathlib.Core.List.{List}
-use Prim.Native.Nat.{ℕ, zero, suc, ◌+◌, ◌-◌, ◌*◌, ◌^◌, ◌≤◌, ◌<◌}
+use Prim.Native.Nat.{ℕ, ◌+◌, ◌-◌, ◌*◌, ◌^◌, ◌≤◌, ◌<◌}
 use native.Mathlib.Omega.{arith}
 use lib.ListN.{length, get_or, set, drop}
 use lib.Pow.{pow_mono}
@@ -12,18 +12,19 @@ use Rattle.model.specs.Costs.{cost_by, mod_triples, of_triples, of_mask}
 use Rattle.model.specs.Commands.{command}
 use Rattle.model.specs.Deal.{Row, no_row}
 use Rattle.model.specs.Fields.{Field}
-use Rattle.model.specs.Refusing.{given}
 use Rattle.model.specs.Run.{row_command}
 use Rattle.model.specs.Script.{Command, LOAD, CONST, ADD, SUB, SCALE, MUL, MOD, TRUNC, LTZ, OVER, BLOCKS, REVEAL, BITLT, LTZS, ranges}
 use Rattle.model.specs.Sheet.{rows_at}
 use Rattle.model.specs.Steps.{plus, minus, times, constant}
 use Rattle.model.specs.Trees.{Tree, done, multiply}
-use Rattle.model.specs.Replay.{stopped, finished, by_record}
+use Rattle.model.specs.Replay.{finished, by_record}
 use Rattle.model.proofs.Operands.{AllSay, operands}
 use Rattle.sharing.specs.Settings.{setting_of}
 use Rattle.cuts.specs.declared.cut.Cut.{Cut}
 use Rattle.cuts.specs.declared.cut.Cut.TheVariants.{Mod, Trunc, Ltz, Over, Blocks}
 use Rattle.cuts.specs.Cuts.{width_of, low_of}
+use Rattle.std.specs.Prelude.{Ok, Err, Result}
+use Rattle.refusals.specs.declared.Refusal.{Refusal}
 use Rattle.registers.specs.declared.table.Table.{Table}
 use Rattle.registers.specs.Cells.{register_in, Stored}
 use Rattle.registers.proofs.Cells.{get_seven, set_seven, from_sevens}
@@ -34,8 +35,7 @@ use Rattle.column_steps.specs.Reads.{table_of, own_of, Working, Standing, deal_f
 use Rattle.column_steps.specs.Remainders.{KM}
 use Rattle.column_steps.specs.Cutting.{cut_tree}
 use Rattle.column_commands.specs.declared.own.Own.{Own}
-use Rattle.column_commands.specs.declared.own.Done.{Done}
-use Rattle.column_commands.specs.Does.{ahead_of, Reached, price_of, Ready, Does, Storing, Reveals}
+use Rattle.column_commands.specs.Does.{ahead_of, price_of, Ready, Finishes, Does, Storing, Reveals}
 use Rattle.column_commands.specs.Signing.{past_signs, SignsCome}
 
 -- where a column goes on after nothing was spent but inputs, after n triples, after a mask and n triples, and after h masks with n triples each
@@ -61,76 +61,68 @@ module _ (o : Own) (k : Counts) where
       rw (a, b, c)
 
 module _ (o : Own) (part log : List ℕ) (k : Counts) where
-  -- what stands at the next places
-  pub reached : {c : Command} → Ready o part log k c → length part < 2 ^ 64 → Reached o k
-  reached {c} R h =
-      record {
-        bits = R.working.fitting.bits;
-        mask = omega (arith, R.masks);
-        triple = omega (arith, R.triples);
-      }
-
   standing_at : {c : Command} (m t : ℕ) → Ready o part log k c → m ≡ (price_of o c).masks → t ≡ (price_of o c).triples → Standing o.column part log (ahead_of o k) m t
   standing_at m t R em et =
       rw (em, et) (record { masks = omega (arith, R.masks); triples = omega (arith, R.triples); openings = R.openings })
 
-  module _ (c : Command) (cells : List ℕ) where
+  module _ (c : Command) (tb : Table) where
+    abbrev cells : List ℕ
+    cells = tb.cells
+
     -- the command's tree on the registers that the cells hold
     abbrev tree : Tree Row (List Row)
     tree = row_command (own_of o.column) (rows_at part 1 0 o.inputs) k.inputs c (sevens 64 cells) done
 
     -- what it does, with m masks and t triples, to these places
-    pub record DoesTo (number : ℕ) (cells' : List ℕ) (m t : ℕ) (next : Ahead) : Type 0 where
+    pub record Ends (cells' : List ℕ) (m t : ℕ) (next : Ahead) : Type 0 where
       pub reads : (M T : ℕ) → read_from o.column part log (ahead_of o k) (m + M) (t + T) tree
-          ≡ given number (finished (sevens 64 cells') (deal_from o.column part next M T) (record_from o.column log next.opening)) (stopped number)
-      pub there : number ≡ 0 → o.column.reader.n * next.opening ≤ length log
+          ≡ finished (sevens 64 cells') (deal_from o.column part next M T) (record_from o.column log next.opening)
+      pub there : o.column.reader.n * next.opening ≤ length log
 
-    does_to : {number : ℕ} {cells' : List ℕ} {m t : ℕ} {next : Ahead} → m ≡ (price_of o c).masks → t ≡ (price_of o c).triples → next ≡ ahead_of o (added k (price_of o c))
-        → DoesTo number cells' m t next → Does o part log k c cells number cells'
-    does_to {number} {cells'} {m} {t} {next} em et en D =
-        let A = subst (λ (x : ℕ). DoesTo number cells' x t next) em D in
-        let B = subst (λ (x : ℕ). DoesTo number cells' (price_of o c).masks x next) et A in
-        let C = subst (λ (x : Ahead). DoesTo number cells' (price_of o c).masks (price_of o c).triples x) en B in
+    ends : {cells' : List ℕ} {m t : ℕ} {next : Ahead} → m ≡ (price_of o c).masks → t ≡ (price_of o c).triples → next ≡ ahead_of o (added k (price_of o c))
+        → Ends cells' m t next → Finishes o part log k c cells cells'
+    ends {cells'} {m} {t} {next} em et en D =
+        let A = subst (λ (x : ℕ). Ends cells' x t next) em D in
+        let B = subst (λ (x : ℕ). Ends cells' (price_of o c).masks x next) et A in
+        let C = subst (λ (x : Ahead). Ends cells' (price_of o c).masks (price_of o c).triples x) en B in
         record { reads = C.reads; there = C.there }
 
     -- a row made without an opening
     made_does : (d : ℕ) (row : Row) {cells' : List ℕ} → Ready o part log k c → 0 ≡ (price_of o c).masks → 0 ≡ (price_of o c).triples → 0 ≡ (price_of o c).openings
-        → tree ≡ done (set (sevens 64 cells) d row) → d < 64 → length cells ≡ 448 → Stored d (λ z. z ≡ row) cells cells' → Does o part log k c cells 0 cells'
+        → tree ≡ done (set (sevens 64 cells) d row) → d < 64 → length cells ≡ 448 → Stored d (λ z. z ≡ row) cells cells' → Finishes o part log k c cells cells'
     unfolding by_record
     made_does d row {cells'} R em et eo e h size P =
         let q : sevens 64 cells' ≡ set (sevens 64 cells) d row =
         rw P.put (set_seven 64 cells d P.row h (omega (arith, size)) P.seven) ∙ ap (set (sevens 64 cells) d) P.is in
-        does_to em et (sym (still o k (price_of o c) (sym em) (sym et) (sym eo)))
+        ends em et (sym (still o k (price_of o c) (sym em) (sym et) (sym eo)))
         (record {
           reads = λ M T.
               let x : 0 + M ≡ M = omega arith in
               let y : 0 + T ≡ T = omega arith in
               rw (x, y) (ap (λ (t : Tree Row (List Row)). by_record (table_of o.column) o.column.reader.party t (deal_from o.column part (ahead_of o k) M T) (record_from o.column log k.openings)) e
               ∙ rw q);
-          there = λ _. R.openings;
+          there = R.openings;
         })
 
-    -- a step that came to something, whose row went to register d
-    storing_does : (d m t : ℕ) (step : Builder) {next : Ahead} {tb : Table} {r : Done} → m ≡ (price_of o c).masks → t ≡ (price_of o c).triples → next ≡ ahead_of o (added k (price_of o c))
-        → tree ≡ step (λ z. done (set (sevens 64 cells) d z)) → d < 64 → tb.cells ≡ cells
-        → Storing o.column part log (ahead_of o k) next m t step tb d r → Does o part log k c cells r.number r.table.cells
+    -- a step whose row went to register d, or that was refused
+    storing_does : (d m t : ℕ) (step : Builder) {next : Ahead} (r : Result Table Refusal) → m ≡ (price_of o c).masks → t ≡ (price_of o c).triples
+        → next ≡ ahead_of o (added k (price_of o c)) → tree ≡ step (λ z. done (set (sevens 64 cells) d z)) → d < 64
+        → Storing o.column part log (ahead_of o k) next m t step tb d r → Does o part log k c tb r
     unfolding by_record
-    storing_does d m t step {next} {tb} {r} em et en e h ec P =
-        does_to em et en
-        (record {
-          reads = λ M T. ap (read_from o.column part log (ahead_of o k) (m + M) (t + T)) e ∙ P.comes.reads M T (λ z. done (set (sevens 64 cells) d z))
-              ∙ go P.made.number refl M T ∙ rw P.stores.same_number;
-          there = λ z. P.comes.there (sym P.stores.same_number ∙ z);
-        })
-      where
-        registers : P.made.number ≡ 0 → sevens 64 r.table.cells ≡ set (sevens 64 cells) d P.made.row.shares
-        registers z = rw (P.stores.cells z, ec) (set_seven 64 cells d P.made.row.shares h (omega (arith, rw ec at P.stores.size)) P.stores.seven)
-
-        go : (j : ℕ) → P.made.number ≡ j → (M T : ℕ)
-            → given j (finished (set (sevens 64 cells) d P.made.row.shares) (deal_from o.column part next M T) (record_from o.column log next.opening)) (stopped j)
-            ≡ given j (finished (sevens 64 r.table.cells) (deal_from o.column part next M T) (record_from o.column log next.opening)) (stopped j)
-        go zero z M T = rw (registers z)
-        go (suc j) z M T = refl
+    storing_does d m t step {next} (Ok t') em et en e h P =
+        let registers : sevens 64 t'.cells ≡ set (sevens 64 cells) d P.row =
+        rw P.kept.cells (set_seven 64 cells d P.row h (omega (arith, P.kept.size)) P.kept.seven) in (
+          ends em et en
+              (record {
+                reads = λ M T. ap (read_from o.column part log (ahead_of o k) (m + M) (t + T)) e ∙ P.comes.reads M T (λ z. done (set (sevens 64 cells) d z)) ∙ rw registers;
+                there = P.comes.there;
+              }),
+          P.kept.spent,
+        )
+    storing_does d m t step (Err x) em et en e h S =
+        record {
+          reads = λ M T. rw (← em, ← et) (ap (read_from o.column part log (ahead_of o k) (m + M) (t + T)) e ∙ S.reads M T (λ z. done (set (sevens 64 cells) d z)));
+        }
 
 stored_as : {d : ℕ} {x y : Row} {cells cells' : List ℕ} → x ≡ y → Stored d (λ z. z ≡ x) cells cells' → Stored d (λ z. z ≡ y) cells cells'
 stored_as e P = record { row = P.row; seven = P.seven; is = P.is ∙ e; put = P.put }
@@ -143,102 +135,115 @@ register_is cells a h = sym (get_seven 64 cells a h)
 pub says : {o : Own} {part log : List ℕ} {k : Counts} (c : Command) → Ready o part log k c → AllSay (ranges o.column.setting.p o.largest c)
 says {o} c R = operands o.column.setting.p o.largest c R.ranged
 
-module _ {o : Own} {part log : List ℕ} {k : Counts} {cells : List ℕ} (size : length cells ≡ 448) where
+module _ {o : Own} {part log : List ℕ} {k : Counts} (tb : Table) (size : length tb.cells ≡ 448) where
   module _ {d : ℕ} {cells' : List ℕ} where
-    pub load_does : Ready o part log k (LOAD d) → Stored d (λ z. z ≡ row_at part 1 (4 * k.inputs)) cells cells' → Does o part log k (LOAD d) cells 0 cells'
+    pub load_does : Ready o part log k (LOAD d) → Stored d (λ z. z ≡ row_at part 1 (4 * k.inputs)) tb.cells cells' → Finishes o part log k (LOAD d) tb.cells cells'
     unfolding command cost_by
     load_does R P =
         let i : 0 + k.inputs * (4 * 1) ≡ 4 * k.inputs = omega arith in
-        made_does o part log k (LOAD d) cells d _ R refl refl refl refl (says (LOAD d) R).0 size
+        made_does o part log k (LOAD d) tb d _ R refl refl refl refl (says (LOAD d) R).0 size
         (stored_as (ap (row_at part 1) (sym i) ∙ sym (input_at part 1 0 o.inputs k.inputs (omega (arith, R.loads)))) P)
 
-    pub fill_does : {v : ℕ} → Ready o part log k (CONST d v) → Stored d (λ z. z ≡ constant (setting_of o.column.setting) v) cells cells' → Does o part log k (CONST d v) cells 0 cells'
+    pub fill_does : {v : ℕ} → Ready o part log k (CONST d v) → Stored d (λ z. z ≡ constant (setting_of o.column.setting) v) tb.cells cells' → Finishes o part log k (CONST d v) tb.cells cells'
     unfolding command cost_by
     fill_does {v} R P =
-        made_does o part log k (CONST d v) cells d _ R refl refl refl refl (says (CONST d v) R).0 size (stored_as (rw R.working.own) P)
+        made_does o part log k (CONST d v) tb d _ R refl refl refl refl (says (CONST d v) R).0 size (stored_as (rw R.working.own) P)
 
     pub add_does : {a b : ℕ} → Ready o part log k (ADD d a b)
-        → Stored d (λ z. z ≡ plus (setting_of o.column.setting) (register_in cells a) (register_in cells b)) cells cells' → Does o part log k (ADD d a b) cells 0 cells'
+        → Stored d (λ z. z ≡ plus (setting_of o.column.setting) (register_in tb.cells a) (register_in tb.cells b)) tb.cells cells' → Finishes o part log k (ADD d a b) tb.cells cells'
     unfolding command cost_by
     add_does {a} {b} R P =
         let r = says (ADD d a b) R in
-        made_does o part log k (ADD d a b) cells d _ R refl refl refl refl r.0 size
-        (stored_as (rw (R.working.own, register_is cells a r.1.0, register_is cells b r.1.1.0)) P)
+        made_does o part log k (ADD d a b) tb d _ R refl refl refl refl r.0 size
+        (stored_as (rw (R.working.own, register_is tb.cells a r.1.0, register_is tb.cells b r.1.1.0)) P)
 
     pub sub_does : {a b : ℕ} → Ready o part log k (SUB d a b)
-        → Stored d (λ z. z ≡ minus (setting_of o.column.setting) (register_in cells a) (register_in cells b)) cells cells' → Does o part log k (SUB d a b) cells 0 cells'
+        → Stored d (λ z. z ≡ minus (setting_of o.column.setting) (register_in tb.cells a) (register_in tb.cells b)) tb.cells cells' → Finishes o part log k (SUB d a b) tb.cells cells'
     unfolding command cost_by
     sub_does {a} {b} R P =
         let r = says (SUB d a b) R in
-        made_does o part log k (SUB d a b) cells d _ R refl refl refl refl r.0 size
-        (stored_as (rw (R.working.own, register_is cells a r.1.0, register_is cells b r.1.1.0)) P)
+        made_does o part log k (SUB d a b) tb d _ R refl refl refl refl r.0 size
+        (stored_as (rw (R.working.own, register_is tb.cells a r.1.0, register_is tb.cells b r.1.1.0)) P)
 
     pub scale_does : {a v : ℕ} → Ready o part log k (SCALE d a v)
-        → Stored d (λ z. z ≡ times (setting_of o.column.setting) v (register_in cells a)) cells cells' → Does o part log k (SCALE d a v) cells 0 cells'
+        → Stored d (λ z. z ≡ times (setting_of o.column.setting) v (register_in tb.cells a)) tb.cells cells' → Finishes o part log k (SCALE d a v) tb.cells cells'
     unfolding command cost_by
     scale_does {a} {v} R P =
         let r = says (SCALE d a v) R in
-        made_does o part log k (SCALE d a v) cells d _ R refl refl refl refl r.0 size (stored_as (rw (R.working.own, register_is cells a r.1.0)) P)
+        made_does o part log k (SCALE d a v) tb d _ R refl refl refl refl r.0 size (stored_as (rw (R.working.own, register_is tb.cells a r.1.0)) P)
 
-  module _ {at : Ahead} (ea : at ≡ ahead_of o k) (tb : Table) (ec : tb.cells ≡ cells) where
-    pub multiply_does : {d a b : ℕ} {r : Done} → Ready o part log k (MUL d a b)
-        → Storing o.column part log at (past at 1) 0 1 (multiply (register_in cells a) (register_in cells b)) tb d r → Does o part log k (MUL d a b) cells r.number r.table.cells
+  module _ {at : Ahead} (ea : at ≡ ahead_of o k) (r : Result Table Refusal) where
+    pub multiply_does : {d a b : ℕ} → Ready o part log k (MUL d a b)
+        → Storing o.column part log at (past at 1) 0 1 (multiply (register_in tb.cells a) (register_in tb.cells b)) tb d r → Does o part log k (MUL d a b) tb r
     unfolding command cost_by
     multiply_does {d} {a} {b} R P =
         let s = says (MUL d a b) R in
-        storing_does o part log k (MUL d a b) cells d 0 1 (multiply (register_in cells a) (register_in cells b)) refl refl (sym (after_triples o k 1))
-        (rw (register_is cells a s.1.0, register_is cells b s.1.1.0)) s.0 ec (rw ea at P)
+        storing_does o part log k (MUL d a b) tb d 0 1 (multiply (register_in tb.cells a) (register_in tb.cells b)) r refl refl (sym (after_triples o k 1))
+        (rw (register_is tb.cells a s.1.0, register_is tb.cells b s.1.1.0)) s.0 (rw ea at P)
 
-    pub compare_does : {d b w v : ℕ} {r : Done} → Ready o part log k (BITLT d b w v)
-        → Storing o.column part log at (past at (w - 1)) 0 (w - 1) (compared o.column v (sevens w (drop (7 * b) cells))) tb d r
-        → Does o part log k (BITLT d b w v) cells r.number r.table.cells
+    pub compare_does : {d b w v : ℕ} → Ready o part log k (BITLT d b w v)
+        → Storing o.column part log at (past at (w - 1)) 0 (w - 1) (compared o.column v (sevens w (drop (7 * b) tb.cells))) tb d r → Does o part log k (BITLT d b w v) tb r
     unfolding command cost_by
     compare_does {d} {b} {w} {v} R P =
         let s = says (BITLT d b w v) R in
-        storing_does o part log k (BITLT d b w v) cells d 0 (w - 1) (compared o.column v (sevens w (drop (7 * b) cells))) refl refl (sym (after_triples o k (w - 1)))
-        (rw (from_sevens (sevens 64 cells) cells b w refl s.1.1.1.1.0)) s.0 ec (rw ea at P)
+        storing_does o part log k (BITLT d b w v) tb d 0 (w - 1) (compared o.column v (sevens w (drop (7 * b) tb.cells))) r refl refl (sym (after_triples o k (w - 1)))
+        (rw (from_sevens (sevens 64 tb.cells) tb.cells b w refl s.1.1.1.1.0)) s.0 (rw ea at P)
 
-    pub reveal_does : {a number : ℕ} → Ready o part log k (REVEAL a) → Reveals o.column log at.opening (register_in cells a) number → Does o part log k (REVEAL a) cells number cells
+    -- a cut, whichever it is
+    pub cut_does : (d a : ℕ) (y : Cut) → Ready o part log k (cut_command d a y)
+        → Storing o.column part log at (past (past_mask o.column.setting.l at) (mod_triples o.column.setting.l (low_of y))) 1 (mod_triples o.column.setting.l (low_of y)) (cut_tree o.column y (register_in tb.cells a)) tb d r
+        → Does o part log k (cut_command d a y) tb r
+    unfolding command cost_by
+    cut_does d a (Mod w m) R P =
+        let s = says (MOD d a w m) R in
+        storing_does o part log k (MOD d a w m) tb d 1 _ (cut_tree o.column (Mod w m) (register_in tb.cells a)) r refl refl (sym (after_mask o k _)) (rw (register_is tb.cells a s.1.0)) s.0 (rw ea at P)
+    cut_does d a (Trunc w m) R P =
+        let s = says (TRUNC d a w m) R in
+        storing_does o part log k (TRUNC d a w m) tb d 1 _ (cut_tree o.column (Trunc w m) (register_in tb.cells a)) r refl refl (sym (after_mask o k _)) (rw (register_is tb.cells a s.1.0)) s.0 (rw ea at P)
+    cut_does d a (Ltz w) R P =
+        let s = says (LTZ d a w) R in
+        storing_does o part log k (LTZ d a w) tb d 1 _ (cut_tree o.column (Ltz w) (register_in tb.cells a)) r refl refl (sym (after_mask o k _)) (rw (register_is tb.cells a s.1.0)) s.0 (rw ea at P)
+    cut_does d a (Over w v) R P =
+        let s = says (OVER d a w v) R in
+        storing_does o part log k (OVER d a w v) tb d 1 _ (cut_tree o.column (Over w v) (register_in tb.cells a)) r refl refl (sym (after_mask o k _)) (rw (register_is tb.cells a s.1.0)) s.0 (rw ea at P)
+    cut_does d a (Blocks w m) R P =
+        let s = says (BLOCKS d a w m) R in
+        storing_does o part log k (BLOCKS d a w m) tb d 1 _ (cut_tree o.column (Blocks w m) (register_in tb.cells a)) r refl refl (sym (after_mask o k _)) (rw (register_is tb.cells a s.1.0)) s.0 (rw ea at P)
+
+  -- REVEAL, and LTZS: by what they come to
+  module _ {at : Ahead} (ea : at ≡ ahead_of o k) where
+    pub reveal_does : {a : ℕ} (r : Result Table Refusal) → Ready o part log k (REVEAL a) → Reveals o.column log at.opening (register_in tb.cells a) tb r
+        → Does o part log k (REVEAL a) tb r
     unfolding command cost_by by_record
-    reveal_does {a} R P =
+    reveal_does {a} (Ok t') R P =
         let h : a < 64 = (says (REVEAL a) R).0 in
         let m : k.masks + 0 ≡ k.masks = omega arith in
-        let t : k.triples + 0 ≡ k.triples = omega arith in
+        let t : k.triples + 0 ≡ k.triples = omega arith in (
+          record {
+            reads = λ M T.
+                let x : 0 + M ≡ M = omega arith in
+                let y : 0 + T ≡ T = omega arith in
+                rw (x, y, m, t, ← register_is tb.cells a h, P.same) (rw ea at (P.opens.reads (λ v log₁. finished (sevens 64 tb.cells) (deal_from o.column part (ahead_of o k) M T) log₁)));
+            there = rw ea at P.opens.there;
+          },
+          ap (λ (t : Table). t.spent) P.same,
+        )
+    reveal_does {a} (Err e) R S =
+        let h : a < 64 = (says (REVEAL a) R).0 in
         record {
           reads = λ M T.
               let x : 0 + M ≡ M = omega arith in
               let y : 0 + T ≡ T = omega arith in
-              rw (x, y, m, t, ← register_is cells a h, P.same) (rw ea at (P.opens.reads (λ v log₁. finished (sevens 64 cells) (deal_from o.column part (ahead_of o k) M T) log₁)));
-          there = λ z. rw ea at (P.opens.there (sym P.same ∙ z));
+              rw (x, y, ← register_is tb.cells a h) (rw ea at (S.reads (λ v log₁. finished (sevens 64 tb.cells) (deal_from o.column part (ahead_of o k) M T) log₁)));
         }
 
-    -- a cut, whichever it is
-    pub cut_does : (d a : ℕ) (y : Cut) {r : Done} → Ready o part log k (cut_command d a y)
-        → Storing o.column part log at (past (past_mask o.column.setting.l at) (mod_triples o.column.setting.l (low_of y))) 1 (mod_triples o.column.setting.l (low_of y)) (cut_tree o.column y (register_in cells a)) tb d r
-        → Does o part log k (cut_command d a y) cells r.number r.table.cells
-    unfolding command cost_by
-    cut_does d a (Mod w m) R P =
-        let s = says (MOD d a w m) R in
-        storing_does o part log k (MOD d a w m) cells d 1 _ (cut_tree o.column (Mod w m) (register_in cells a)) refl refl (sym (after_mask o k _)) (rw (register_is cells a s.1.0)) s.0 ec (rw ea at P)
-    cut_does d a (Trunc w m) R P =
-        let s = says (TRUNC d a w m) R in
-        storing_does o part log k (TRUNC d a w m) cells d 1 _ (cut_tree o.column (Trunc w m) (register_in cells a)) refl refl (sym (after_mask o k _)) (rw (register_is cells a s.1.0)) s.0 ec (rw ea at P)
-    cut_does d a (Ltz w) R P =
-        let s = says (LTZ d a w) R in
-        storing_does o part log k (LTZ d a w) cells d 1 _ (cut_tree o.column (Ltz w) (register_in cells a)) refl refl (sym (after_mask o k _)) (rw (register_is cells a s.1.0)) s.0 ec (rw ea at P)
-    cut_does d a (Over w v) R P =
-        let s = says (OVER d a w v) R in
-        storing_does o part log k (OVER d a w v) cells d 1 _ (cut_tree o.column (Over w v) (register_in cells a)) refl refl (sym (after_mask o k _)) (rw (register_is cells a s.1.0)) s.0 ec (rw ea at P)
-    cut_does d a (Blocks w m) R P =
-        let s = says (BLOCKS d a w m) R in
-        storing_does o part log k (BLOCKS d a w m) cells d 1 _ (cut_tree o.column (Blocks w m) (register_in cells a)) refl refl (sym (after_mask o k _)) (rw (register_is cells a s.1.0)) s.0 ec (rw ea at P)
-
-    pub signs_does : {d a h w number : ℕ} {cells' : List ℕ} → Ready o part log k (LTZS d a h w) → SignsCome o.column part log at d a h w cells number cells'
-        → Does o part log k (LTZS d a h w) cells number cells'
+    pub signs_does : {d a h w : ℕ} (r : Result Table Refusal) → Ready o part log k (LTZS d a h w) → SignsCome o.column part log at d a h w tb r
+        → Does o part log k (LTZS d a h w) tb r
     unfolding command cost_by by_record
-    signs_does {d} {a} {h} {w} {number} {cells'} R P =
-        does_to o part log k (LTZS d a h w) cells refl refl (places ∙ refl)
-        (record { reads = λ M T. (rw ea at P).reads M T done; there = (rw ea at P).there })
+    signs_does {d} {a} {h} {w} (Ok t') R P = (
+      ends o part log k (LTZS d a h w) tb refl refl places (record { reads = λ M T. (rw ea at P.0).reads M T done; there = (rw ea at P.0).there }),
+      P.1,
+    )
       where
         places : past_signs o.column w (ahead_of o k) h ≡ ahead_of o (added k (price_of o (LTZS d a h w)))
         places =
@@ -247,6 +252,7 @@ module _ {o : Own} {part log : List ℕ} {k : Counts} {cells : List ℕ} (size :
             let x : o.mask + k.masks * (4 * o.column.setting.l) + h * (4 * o.column.setting.l) ≡ o.mask + (k.masks + h) * (4 * o.column.setting.l) = omega arith in
             let y : o.triple + 12 * k.triples + 12 * (h * n) ≡ o.triple + 12 * (k.triples + h * n) = omega arith in
             rw (x, y)
+    signs_does {d} {a} {h} {w} (Err e) R S = record { reads = λ M T. (rw ea at S).reads M T done }
 
 -- k and m of a cut
 km : (o : Own) → Field o.column.setting.p o.column.setting.l o.largest → (w m : ℕ) → w ≤ o.largest → 1 ≤ m → m < w → KM o.column.setting w m

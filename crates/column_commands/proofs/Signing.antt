@@ -1,9 +1,8 @@
 -- LTZS on one column, as the code's loop has it: after i signs what is left to read is what the whole command reads.
 -- Assumes nothing.
 use mathlib.Core.Path.{◌≡◌, refl, sym, ap, subst, ◌∙◌}
-use mathlib.Core.Logic.{◌≢◌}
 use mathlib.Core.List.{List}
-use Prim.Native.Nat.{ℕ, suc, ◌+◌, ◌-◌, ◌*◌, ◌^◌, ◌≤◌, ◌<◌}
+use Prim.Native.Nat.{ℕ, suc, ◌+◌, ◌-◌, ◌*◌, ◌≤◌, ◌<◌}
 use native.Mathlib.Omega.{arith}
 use lib.ListN.{length, get_or, set}
 use Rattle.algebra.specs.Lists.{onto_at}
@@ -12,51 +11,15 @@ use Rattle.model.specs.Commands.{registers_from, signs}
 use Rattle.model.specs.Costs.{mod_triples}
 use Rattle.model.specs.Deal.{Row, no_row}
 use Rattle.model.specs.Trees.{Tree}
-use Rattle.model.proofs.Trying.{given_done, given_refused}
 use Rattle.cuts.specs.declared.cut.Cut.TheVariants.{Ltz}
+use Rattle.refusals.specs.declared.Refusal.{Refusal}
 use Rattle.registers.specs.Cells.{register_in}
 use Rattle.registers.proofs.Cells.{get_seven, set_seven}
 use Rattle.column_steps.specs.declared.column.Column.{Column}
 use Rattle.column_steps.specs.declared.column.Ahead.{Ahead}
-use Rattle.column_steps.specs.declared.column.Outcome.{Outcome}
-use Rattle.column_steps.specs.Reads.{Working, Standing, read_from, Comes, past, past_mask}
+use Rattle.column_steps.specs.Reads.{Working, Standing, read_from, ComesTo, Stops}
 use Rattle.column_steps.specs.Cutting.{cut_tree}
-use Rattle.column_steps.proofs.Opening.{counts_on}
-use Rattle.column_commands.specs.Signing.{past_signs, signs_tree, SignsCome}
-
--- past one sign, as a cut has it
-one_sign : (c : Column) (k : ℕ) (at : Ahead) → past (past_mask c.setting.l at) (mod_triples c.setting.l (k - 1)) ≡ past_signs c k at 1
-one_sign c k at =
-    let n = mod_triples c.setting.l (k - 1) in
-    let a : at.mask + 4 * c.setting.l ≡ at.mask + 1 * (4 * c.setting.l) = omega arith in
-    let b : at.triple + 12 * n ≡ at.triple + 12 * (1 * n) = omega arith in
-    let e : at.opening + 1 + 2 * n ≡ at.opening + 1 * (1 + 2 * n) = omega arith in
-    rw (a, b, e)
-
--- the same by its numbers
-pub sign_past : (c : Column) (k : ℕ) (at : Ahead)
-    → record { mask = at.mask + 4 * c.setting.l; triple = at.triple + 12 * mod_triples c.setting.l (k - 1); opening = at.opening + (1 + 2 * mod_triples c.setting.l (k - 1)) }
-    ≡ past_signs c k at 1
-sign_past c k at =
-    let n = mod_triples c.setting.l (k - 1) in
-    let a : at.mask + 4 * c.setting.l ≡ at.mask + 1 * (4 * c.setting.l) = omega arith in
-    let b : at.triple + 12 * n ≡ at.triple + 12 * (1 * n) = omega arith in
-    let e : at.opening + (1 + 2 * n) ≡ at.opening + 1 * (1 + 2 * n) = omega arith in
-    rw (a, b, e)
-
-pub sign_comes : {c : Column} {part log : List ℕ} (at : Ahead) (k : ℕ) {x y : Row} {r : Outcome} → x ≡ y
-    → Comes c part log at (past (past_mask c.setting.l at) (mod_triples c.setting.l (k - 1))) 1 (mod_triples c.setting.l (k - 1)) (cut_tree c (Ltz k) x) r
-    → Comes c part log at (past_signs c k at 1) 1 (mod_triples c.setting.l (k - 1)) (cut_tree c (Ltz k) y) r
-sign_comes {c} {part} {log} at k {x} {y} {r} e C =
-    subst (λ (v : Ahead). Comes c part log at v 1 (mod_triples c.setting.l (k - 1)) (cut_tree c (Ltz k) y) r) (one_sign c k at) (rw e at C)
-
-no_sign : (c : Column) (k : ℕ) (at : Ahead) → at ≡ past_signs c k at 0
-no_sign c k at =
-    let n = mod_triples c.setting.l (k - 1) in
-    let a : at.mask + 0 * (4 * c.setting.l) ≡ at.mask = omega arith in
-    let b : at.triple + 12 * (0 * n) ≡ at.triple = omega arith in
-    let e : at.opening + 0 * (1 + 2 * n) ≡ at.opening = omega arith in
-    rw (a, b, e)
+use Rattle.column_commands.specs.Signing.{past_signs, signs_tree, SignsTo, SignsStop}
 
 more_signs : (c : Column) (k : ℕ) (at : Ahead) (i : ℕ) → past_signs c k (past_signs c k at i) 1 ≡ past_signs c k at (i + 1)
 more_signs c k at i =
@@ -77,12 +40,6 @@ pub record Signed (c : Column) (part log : List ℕ) (at : Ahead) (d a h k : ℕ
       ≡ read_from c part log next (turns + M) (turns * mod_triples c.setting.l (k - 1) + T) (signs_tree c k (sevens 64 cells) (a + i) turns (d + i) (sevens 64 cells') go)
 
 module _ {c : Column} (W : Working c) {part log : List ℕ} {at : Ahead} {d a h k : ℕ} {cells : List ℕ} where
-  pub signed_start : Standing c part log at h (h * mod_triples c.setting.l (k - 1)) → Signed c part log at d a h k cells 0 at cells
-  signed_start S =
-      let e : a + 0 ≡ a = omega arith in
-      let f : d + 0 ≡ d = omega arith in
-      record { turns = h; count = omega arith; places = no_sign c k at; standing = S; whole = λ M T go. rw (e, f) }
-
   module _ {i : ℕ} {next : Ahead} {cells' : List ℕ} (C : Signed c part log at d a h k cells i next cells') (less : i < h) where
     abbrev n : ℕ
     n = mod_triples c.setting.l (k - 1)
@@ -93,15 +50,7 @@ module _ {c : Column} (W : Working c) {part log : List ℕ} {at : Ahead} {d a h 
     here : Standing c part log next (suc (C.turns - 1)) (suc (C.turns - 1) * n)
     here = rw one_turn at C.standing
 
-    pub turn_standing : Standing c part log next 1 n
-    turn_standing =
-        record {
-          masks = omega (arith, here.masks);
-          triples = omega (arith, here.triples);
-          openings = C.standing.openings;
-        }
-
-    module _ (aa : a + i < 64) {made : Outcome} (P : Comes c part log next (past_signs c k next 1) 1 n (cut_tree c (Ltz k) (register_in cells (a + i))) made) where
+    module _ (aa : a + i < 64) where
       turn_at : (t M T : ℕ) (go : List Row → Tree Row (List Row))
           → read_from c part log next (suc t + M) (suc t * n + T) (signs_tree c k (sevens 64 cells) (a + i) (suc t) (d + i) (sevens 64 cells') go)
           ≡ read_from c part log next (1 + (t + M)) (n + (t * n + T))
@@ -123,18 +72,13 @@ module _ {c : Column} (W : Working c) {part log : List ℕ} {at : Ahead} {d a h 
           ap (λ (u : ℕ). read_from c part log next (u + M) (u * n + T) (signs_tree c k (sevens 64 cells) (a + i) u (d + i) (sevens 64 cells') go)) one_turn
           ∙ turn_at (C.turns - 1) M T go
 
-      pub turn_refused : {number : ℕ} {cells'' : List ℕ} → number ≢ 0 → number ≡ made.number → SignsCome c part log at d a h k cells number cells''
-      turn_refused {number} y e =
-          let z : made.number ≢ 0 = λ q. y (e ∙ q) in
-          record {
-            reads = λ M T go. C.whole M T go ∙ turn M T go ∙ P.reads (C.turns - 1 + M) ((C.turns - 1) * n + T) _ ∙ given_refused made.number _ _ z ∙ rw (← e)
-                (sym (given_refused number _ _ (λ q. z (sym e ∙ q))));
-            there = λ q. absurd (z (sym e ∙ q));
-          }
+      pub turn_stops : {e : Refusal} → Stops c part log next 1 n (cut_tree c (Ltz k) (register_in cells (a + i))) e → SignsStop c part log at d a h k cells e
+      turn_stops S = record { reads = λ M T go. C.whole M T go ∙ turn M T go ∙ S.reads (C.turns - 1 + M) ((C.turns - 1) * n + T) _ }
 
-      pub signed_more : {next' : Ahead} {cells'' : List ℕ} → made.number ≡ 0 → d + i < 64 → length cells' ≡ 448 → length made.row.shares ≡ 7
-          → cells'' ≡ onto_at (7 * (d + i)) made.row.shares cells' → next' ≡ past_signs c k next 1 → Signed c part log at d a h k cells (i + 1) next' cells''
-      signed_more {next'} {cells''} z dd size seven ec en =
+      pub signed_more : {row : Row} {next' : Ahead} {cells'' : List ℕ} → ComesTo c part log next (past_signs c k next 1) 1 n (cut_tree c (Ltz k) (register_in cells (a + i))) row
+          → d + i < 64 → length cells' ≡ 448 → length row ≡ 7 → cells'' ≡ onto_at (7 * (d + i)) row cells' → next' ≡ past_signs c k next 1
+          → Signed c part log at d a h k cells (i + 1) next' cells''
+      signed_more {row} {next'} {cells''} P dd size seven ec en =
           record {
             turns = C.turns - 1;
             count = omega (arith, C.count);
@@ -144,27 +88,26 @@ module _ {c : Column} (W : Working c) {part log : List ℕ} {at : Ahead} {d a h 
                 (record {
                   masks = omega (arith, here.masks);
                   triples = omega (arith, here.triples);
-                  openings = P.there z;
+                  openings = P.there;
                 });
-            whole = λ M T go. C.whole M T go ∙ turn M T go ∙ P.reads (C.turns - 1 + M) ((C.turns - 1) * n + T) _ ∙ given_done made.number _ _ z ∙ more M T go;
+            whole = λ M T go. C.whole M T go ∙ turn M T go ∙ P.reads (C.turns - 1 + M) ((C.turns - 1) * n + T) _ ∙ more M T go;
           }
         where
-          registers : sevens 64 cells'' ≡ set (sevens 64 cells') (d + i) made.row.shares
-          registers = rw ec (set_seven 64 cells' (d + i) made.row.shares dd (omega (arith, size)) seven)
+          registers : sevens 64 cells'' ≡ set (sevens 64 cells') (d + i) row
+          registers = rw ec (set_seven 64 cells' (d + i) row dd (omega (arith, size)) seven)
 
           more : (M T : ℕ) (go : List Row → Tree Row (List Row))
               → read_from c part log (past_signs c k next 1) (C.turns - 1 + M) ((C.turns - 1) * n + T)
-              (signs_tree c k (sevens 64 cells) (a + i + 1) (C.turns - 1) (d + i + 1) (set (sevens 64 cells') (d + i) made.row.shares) go)
+              (signs_tree c k (sevens 64 cells) (a + i + 1) (C.turns - 1) (d + i + 1) (set (sevens 64 cells') (d + i) row) go)
               ≡ read_from c part log next' (C.turns - 1 + M) ((C.turns - 1) * n + T) (signs_tree c k (sevens 64 cells) (a + (i + 1)) (C.turns - 1) (d + (i + 1)) (sevens 64 cells'') go)
           more M T go =
               let p : a + i + 1 ≡ a + (i + 1) = omega arith in
               let q : d + i + 1 ≡ d + (i + 1) = omega arith in
               rw (en, registers, p, q)
 
-  pub signed_end : {i : ℕ} {next : Ahead} {cells' : List ℕ} {number : ℕ} → Signed c part log at d a h k cells i next cells' → h ≤ i → number ≡ 0
-      → SignsCome c part log at d a h k cells number cells'
+  pub signed_end : {i : ℕ} {next : Ahead} {cells' : List ℕ} → Signed c part log at d a h k cells i next cells' → h ≤ i → SignsTo c part log at d a h k cells cells'
   unfolding signs registers_from
-  signed_end {i} {next} {cells'} {number} C l e =
+  signed_end {i} {next} {cells'} C l =
       let z : C.turns ≡ 0 = omega (arith, C.count) in
       let ih : i ≡ h = omega (arith, C.count) in
       let p : next ≡ past_signs c k at h = C.places ∙ ap (past_signs c k at) ih in
@@ -172,12 +115,6 @@ module _ {c : Column} (W : Working c) {part log : List ℕ} {at : Ahead} {d a h 
         reads = λ M T go.
             let x : 0 + M ≡ M = omega arith in
             let y : 0 * mod_triples c.setting.l (k - 1) + T ≡ T = omega arith in
-            C.whole M T go ∙ rw (z, x, y, e) (ap (λ (v : Ahead). read_from c part log v M T (go (sevens 64 cells'))) p);
-        there = λ _. subst (λ (v : Ahead). c.reader.n * v.opening ≤ length log) p C.standing.openings;
+            C.whole M T go ∙ rw (z, x, y) (ap (λ (v : Ahead). read_from c part log v M T (go (sevens 64 cells'))) p);
+        there = subst (λ (v : Ahead). c.reader.n * v.opening ≤ length log) p C.standing.openings;
       }
-
--- the places past a sign are numbers of the code
-pub sign_ahead : {c : Column} (W : Working c) {part log : List ℕ} (next : Ahead) (k : ℕ) → Standing c part log next 1 (mod_triples c.setting.l (k - 1))
-    → c.reader.n * (past_signs c k next 1).opening ≤ length log → length part < 2 ^ 64 → length log < 2 ^ 64
-    → ((past_signs c k next 1).mask < 2 ^ 64) × ((past_signs c k next 1).triple < 2 ^ 64) × ((past_signs c k next 1).opening < 2 ^ 64)
-sign_ahead {c} W {log = log} next k S l hp hl = (omega (arith, S.masks), omega (arith, S.triples), counts_on log (past_signs c k next 1).opening W l hl)

@@ -8,6 +8,7 @@ ghost use Rattle.column_commands.specs.Does.{ahead_of, Reached, Stores};
 
 use column_steps::column::{Ahead, Column};
 use costs::counts::Counts;
+use refusals::Refusal;
 use registers::table::Table;
 use secret::Row;
 use sharing::rows;
@@ -23,13 +24,6 @@ pub struct Own {
     pub triple: usize,
 }
 
-// The number of a refusal, or 0 and the table that a command leaves.
-#[derive(Clone, Copy)]
-pub struct Done {
-    pub number: u32,
-    pub table: Table,
-}
-
 // Where the next mask and triple stand, and how many openings were read, where so much was spent.
 pub fn ahead_of(own: Own, spent: Counts) -> Ahead
     requires { Reached own (counts_of spent) }
@@ -43,19 +37,13 @@ pub fn ahead_of(own: Own, spent: Counts) -> Ahead
     }
 }
 
-// A step that came to a number and a row: where the number is 0 the row goes to register d.
+// What a step came to: a row goes to register d.
 #[inline(never)]
-pub fn stored(table: Table, d: usize, number: u32, row: Row) -> Done
+pub fn stored(table: Table, d: usize, made: Result<Row, Refusal>) -> Result<Table, Refusal>
     requires { d < 64 }
-    ensures { Stores table d number row.shares result }
+    ensures { Stores table d made result }
 {
-    if number != 0 {
-        return Done { number, table };
-    }
-    Done {
-        number: 0,
-        table: table.put(d, row),
-    }
+    Ok(table.put(d, made?))
 }
 
 // LOAD d: the next input row, of one share

@@ -1,35 +1,35 @@
 // What each command does to the table of one column.
-ghost use Rattle.std.specs.Prelude.{◌≡◌};
 ghost use Rattle.costs.specs.Costing.{counts_of};
 ghost use Rattle.script.specs.Meaning.{meant};
 ghost use Rattle.column_commands.specs.Does.{Ready, Does};
 
-use crate::own::{Done, Own};
+use crate::own::Own;
 use crate::{opening, own, signs};
 use cuts::cut::Cut;
+use refusals::Refusal;
 use registers::table::Table;
 use script::command::Command;
 
-fn done(table: Table) -> Done
-    ensures { (result.number ≡ 0) × (result.table ≡ table) }
-{
-    Done { number: 0, table }
-}
-
 // A refusal inside a command leaves the caller's table as it was: this one is handed on by value.
-pub fn perform(table: Table, own: Own, part: &[u8], log: &[u32], command: Command) -> Done
+pub fn perform(
+    table: Table,
+    own: Own,
+    part: &[u8],
+    log: &[u32],
+    command: Command,
+) -> Result<Table, Refusal>
     requires { Ready own part.now log.now (counts_of table.spent.counts) (meant command) }
-    ensures { Does own part.now log.now (counts_of table.spent.counts) (meant command) table.cells result.number result.table.cells × (result.table.spent ≡ table.spent) }
+    ensures { Does own part.now log.now (counts_of table.spent.counts) (meant command) table result }
 {
     let c = own.column;
     let s = c.setting;
     let at = own::ahead_of(own, table.spent.counts);
     match command {
-        Command::Load { d } => done(own::load(table, part, d)),
-        Command::Const { d, v } => done(table.fill(s, d, v)),
-        Command::Add { d, a, b } => done(table.add(s, d, a, b)),
-        Command::Sub { d, a, b } => done(table.sub(s, d, a, b)),
-        Command::Scale { d, a, v } => done(table.scale(s, d, a, v)),
+        Command::Load { d } => Ok(own::load(table, part, d)),
+        Command::Const { d, v } => Ok(table.fill(s, d, v)),
+        Command::Add { d, a, b } => Ok(table.add(s, d, a, b)),
+        Command::Sub { d, a, b } => Ok(table.sub(s, d, a, b)),
+        Command::Scale { d, a, v } => Ok(table.scale(s, d, a, v)),
         Command::Mul { d, a, b } => opening::multiply(table, c, at, part, log, d, a, b),
         Command::Mod { d, a, k, m } => opening::cut(
             table,

@@ -10,11 +10,12 @@ ghost use Rattle.column_steps.specs.Cutting.{cut_tree};
 ghost use Rattle.column_commands.specs.Signing.{past_signs, SignsCome};
 
 use crate::own;
-use crate::own::Done;
-use column_steps::column::{Ahead, Column, Outcome};
+use column_steps::column::{Ahead, Column};
 use column_steps::cut;
 use cuts::cut::Cut;
+use refusals::Refusal;
 use registers::table::{Table, register};
+use secret::Row;
 
 // The sign of register a, of a table's cells, which are lent.
 fn sign_of(
@@ -25,7 +26,7 @@ fn sign_of(
     cells: &[u32],
     a: usize,
     k: u32,
-) -> Outcome
+) -> Result<Row, Refusal>
     requires { Working c × Standing c part.now log.now at 1 (mod_triples c.setting.l (k - 1)) × KM c.setting k (k - 1) × (length cells.now ≡ 448) × (a < 64) }
     ensures { Comes c part.now log.now at (past_signs c k at 1) 1 (mod_triples c.setting.l (k - 1)) (cut_tree c (Ltz k) (register_in cells.now a)) result }
 {
@@ -38,12 +39,7 @@ fn past_sign(c: Column, at: Ahead, k: u32) -> Ahead
     ensures { result ≡ past_signs c k at 1 }
 {
     let l = c.setting.l;
-    let triples = l + 2 * (k as usize - 1) - 2;
-    Ahead {
-        mask: at.mask + 4 * l,
-        triple: at.triple + 12 * triples,
-        opening: at.opening + (1 + 2 * triples),
-    }
+    at.past_mask(l).past(l + 2 * (k as usize - 1) - 2)
 }
 
 // LTZS d a h k: LTZ of h registers in rising order, each read as it stood before the command. A refusal leaves none of them.
@@ -58,28 +54,16 @@ pub fn signs(
     a: usize,
     h: usize,
     k: u32,
-) -> Done
+) -> Result<Table, Refusal>
     requires { Working c × Standing c part.now log.now at h (h * mod_triples c.setting.l (k - 1)) × KM c.setting k (k - 1) × (d + h ≤ 64) × (a + h ≤ 64) }
-    ensures { SignsCome c part.now log.now at d a h k table.cells result.number result.table.cells × (result.table.spent ≡ table.spent) }
+    ensures { SignsCome c part.now log.now at d a h k table result }
 {
     let mut after = table;
     let mut next = at;
-    let mut i = 0;
-    while i < h {
+    for i in 0..h {
         let made = sign_of(c, next, part, log, &table.cells[..], a + i, k);
-        let put = own::stored(after, d + i, made.number, made.row);
-        if put.number != 0 {
-            return Done {
-                number: put.number,
-                table,
-            };
-        }
-        after = put.table;
+        after = own::stored(after, d + i, made)?;
         next = past_sign(c, next, k);
-        i += 1;
     }
-    Done {
-        number: 0,
-        table: after,
-    }
+    Ok(after)
 }
