@@ -62,10 +62,8 @@ pub fn inverse_power_of_two(p: u32, m: u32) -> u32
 {
     let half = (p + 1) / 2;
     let mut r: u32 = 1;
-    let mut i: u32 = 0;
-    while i < m {
+    for _i in 0..m {
         r = mul(p, half, r);
-        i += 1;
     }
     r
 }

@@ -5,75 +5,58 @@ pub mod arithmetic;
 pub mod coding;
 pub mod table;
 
-ghost use Rattle.std.specs.Prelude.{◌≡◌};
+ghost use Rattle.std.specs.Prelude.{◌≡◌, pos};
+ghost use Rattle.refusals.specs.Numbers.{told, given_or};
 ghost use Rattle.model.specs.Entries.{encode_number, encode_value, decode_number, decode_value};
 
-// What encode answers: the paper's number, and the field value, 0 where it refuses.
-#[derive(Clone, Copy)]
-pub struct Encoded {
-    pub number: u32,
-    pub value: u32,
-}
-
-// What decode answers: the paper's number, and the signed number, 0 where it refuses.
-#[derive(Clone, Copy)]
-pub struct Decoded {
-    pub number: u32,
-    pub value: i64,
-}
+use refusals::Refusal;
 
 // A k-bit signed number as a value of the field. Refuses 2, 11.
-pub fn encode(field: u32, k: u32, a: i64) -> Encoded
-    ensures { (result.number ≡ encode_number field k a) × (result.value ≡ encode_value field k a) }
+pub fn encode(field: u32, k: u32, a: i64) -> Result<u32, Refusal>
+    ensures number { told result ≡ encode_number field k a }
+    ensures value { given_or 0 result ≡ encode_value field k a }
 {
-    let number = encode_number(field, k, a);
-    if number != 0 {
-        return Encoded { number, value: 0 };
-    }
-    Encoded {
-        number,
-        value: coding::code(table::modulus(field as usize), a),
-    }
+    encodable(field, k, a)?;
+    Ok(coding::code(table::modulus(field as usize), a))
 }
 
 // A field value read back as a signed number. Refuses 2, 5.
-pub fn decode(field: u32, v: u32) -> Decoded
-    ensures { (result.number ≡ decode_number field v) × (result.value ≡ decode_value field v) }
+pub fn decode(field: u32, v: u32) -> Result<i64, Refusal>
+    ensures number { told result ≡ decode_number field v }
+    ensures value { given_or (pos 0) result ≡ decode_value field v }
 {
-    let number = decode_number(field, v);
-    if number != 0 {
-        return Decoded { number, value: 0 };
-    }
-    Decoded {
-        number,
-        value: coding::read_back(table::modulus(field as usize), v),
-    }
+    decodable(field, v)?;
+    Ok(coding::read_back(table::modulus(field as usize), v))
 }
 
-fn encode_number(field: u32, k: u32, a: i64) -> u32
-    ensures { result ≡ encode_number field k a }
+// 2, 11 or nothing.
+#[tactic(auto, using(model::proofs::Trying::trying), unfolding(model::specs::Entries::encode_tests))]
+fn encodable(field: u32, k: u32, a: i64) -> Result<(), Refusal>
+    ensures { told result ≡ encode_number field k a }
 {
-    let number = table::field_number(field);
-    if number != 0 {
-        return number;
-    }
+    table::known(field)?;
     if k < 2 {
-        return 11;
+        return Err(Refusal::OutOfRange);
     }
     if table::largest_k(field as usize) < k {
-        return 11;
+        return Err(Refusal::OutOfRange);
     }
-    if coding::in_range(k, a) { 0 } else { 11 }
+    if coding::in_range(k, a) {
+        Ok(())
+    } else {
+        Err(Refusal::OutOfRange)
+    }
 }
 
+// 2, 5 or nothing.
 #[tactic(auto, using(model::proofs::Trying::trying), unfolding(model::specs::Entries::decode_tests))]
-fn decode_number(field: u32, v: u32) -> u32
-    ensures { result ≡ decode_number field v }
+fn decodable(field: u32, v: u32) -> Result<(), Refusal>
+    ensures { told result ≡ decode_number field v }
 {
-    let number = table::field_number(field);
-    if number != 0 {
-        return number;
+    table::known(field)?;
+    if v < table::modulus(field as usize) {
+        Ok(())
+    } else {
+        Err(Refusal::NotBelowP)
     }
-    let p = table::modulus(field as usize);
-    if v < p { 0 } else { 5 }
 }

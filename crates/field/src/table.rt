@@ -2,14 +2,46 @@
 ghost use Rattle.std.specs.Prelude.{◌≡◌, ◌<◌};
 ghost use Rattle.model.specs.Fields as Fields;
 ghost use Rattle.model.specs.Refusing.{first_failed};
+ghost use Rattle.refusals.specs.Numbers.{told};
 
-// Three to a field: p, its bit length, and the largest k.
-const FIELDS: [u32; 12] = [13, 4, 3, 251, 8, 7, 65521, 16, 15, 2147483647, 31, 30];
+use refusals::Refusal;
 
-// Eight to a field: the inverses of 0 to 7, with 0 for that of 0.
-const INVERSES: [u32; 32] = [
-    0, 1, 7, 9, 10, 8, 11, 2, 0, 1, 126, 84, 63, 201, 42, 36, 0, 1, 32761, 43681, 49141, 52417,
-    54601, 56161, 0, 1, 1073741824, 1431655765, 536870912, 858993459, 1789569706, 1840700269,
+// The modulus p, its bit length, the largest k, and the inverses of 0 to 7, with 0 for that of 0.
+#[derive(Clone, Copy)]
+struct Field {
+    modulus: u32,
+    bits: u32,
+    largest_k: u32,
+    inverses: [u32; 8],
+}
+
+const FIELDS: [Field; 4] = [
+    Field {
+        modulus: 13,
+        bits: 4,
+        largest_k: 3,
+        inverses: [0, 1, 7, 9, 10, 8, 11, 2],
+    },
+    Field {
+        modulus: 251,
+        bits: 8,
+        largest_k: 7,
+        inverses: [0, 1, 126, 84, 63, 201, 42, 36],
+    },
+    Field {
+        modulus: 65521,
+        bits: 16,
+        largest_k: 15,
+        inverses: [0, 1, 32761, 43681, 49141, 52417, 54601, 56161],
+    },
+    Field {
+        modulus: 2147483647,
+        bits: 31,
+        largest_k: 30,
+        inverses: [
+            0, 1, 1073741824, 1431655765, 536870912, 858993459, 1789569706, 1840700269,
+        ],
+    },
 ];
 
 // Whether a field is in use.
@@ -19,32 +51,37 @@ pub fn in_use(field: u32) -> bool
     field < 4
 }
 
-// The refusal of a field's number: 2, or 0.
-pub fn field_number(field: u32) -> u32
-    ensures { result ≡ first_failed (Fields.field_tests field) }
+// 2 where a field is not in use.
+#[tactic(auto, using(model::proofs::Trying::trying), unfolding(model::specs::Fields::field_tests))]
+pub fn known(field: u32) -> Result<(), Refusal>
+    ensures { told result ≡ first_failed (Fields.field_tests field) }
 {
-    if in_use(field) { 0 } else { 2 }
+    if in_use(field) {
+        Ok(())
+    } else {
+        Err(Refusal::BadField)
+    }
 }
 
 pub fn modulus(field: usize) -> u32
     requires { Fields.InUse field }
     ensures { (result ≡ Fields.modulus field) × Fields.Modulus result }
 {
-    FIELDS[3 * field]
+    FIELDS[field].modulus
 }
 
 pub fn bits(field: usize) -> u32
     requires { field < 4 }
     ensures { result ≡ Fields.bits field }
 {
-    FIELDS[3 * field + 1]
+    FIELDS[field].bits
 }
 
 pub fn largest_k(field: usize) -> u32
     requires { field < 4 }
     ensures { result ≡ Fields.largest_k field }
 {
-    FIELDS[3 * field + 2]
+    FIELDS[field].largest_k
 }
 
 // 1/d modulo p, and 0 for d = 0.
@@ -52,5 +89,5 @@ pub fn inverse(field: usize, d: usize) -> u32
     requires { (field < 4) × (d < 8) }
     ensures { result ≡ Fields.inverse (Fields.modulus field) d }
 {
-    INVERSES[8 * field + d]
+    FIELDS[field].inverses[d]
 }

@@ -1,33 +1,30 @@
--- Rows column by column: one added to a multiple or to a public value, and one read from seven cells.
+-- Rows column by column: their shares, and one read from seven cells.
 -- Assumes nothing.
 use mathlib.Core.Path.{◌≡◌, sym, ◌∙◌}
 use mathlib.Core.List.{List, [], ◌∷◌}
-use Prim.Native.Nat.{ℕ, ◌+◌, ◌≤◌}
+use Prim.Native.Nat.{ℕ, ◌+◌, ◌≤◌, ◌<◌}
 use native.Mathlib.Nat.{add-zero}
 use native.Mathlib.Omega.{arith}
 use lib.ListN.{length, get_or, take, drop, length-drop}
 use lib.Seq.{get_or-take, get_or-drop, length-take-le}
 use Rattle.algebra.specs.Ring.{add, mul}
-use Rattle.algebra.specs.Rows.{tab, row}
-use Rattle.algebra.proofs.Rows.{is_tab, row_at_lem, row_ext, Filling, filling_end}
+use Rattle.algebra.specs.Rows.{tab}
+use Rattle.algebra.proofs.Rows.{is_tab, row_at_lem}
 use Rattle.model.specs.Steps.{Setting, Row, plus, times, constant}
 
-module _ (S : Setting) (a : Row) where
-  scaled_columns : (c : ℕ) (b : Row) → row S.n (λ k. add S.p (get_or a k 0) (mul S.p c (get_or b k 0))) ≡ plus S a (times S c b)
-  unfolding plus times
-  scaled_columns c b = row_ext S.n _ _ (λ k h. simp row_at_lem)
+-- share j of a sum, of a multiple and of a constant's row
+module _ (S : Setting) (j : ℕ) where
+  pub plus_at : (a b : Row) → j < S.n → get_or (plus S a b) j 0 ≡ add S.p (get_or a j 0) (get_or b j 0)
+  unfolding plus
+  plus_at a b h = row_at_lem S.n _ j h
 
-  public_columns : (v : ℕ) → row S.n (λ k. add S.p (get_or a k 0) v) ≡ plus S a (constant S v)
-  unfolding plus constant
-  public_columns v = row_ext S.n _ _ (λ k h. simp row_at_lem)
+  pub times_at : (c : ℕ) (a : Row) → j < S.n → get_or (times S c a) j 0 ≡ mul S.p c (get_or a j 0)
+  unfolding times
+  times_at c a h = row_at_lem S.n _ j h
 
--- the loops that fill them are done
-module _ (S : Setting) (a : Row) {j : ℕ} {l : Row} where
-  pub scaled_end : (c : ℕ) (b : Row) → Filling S.n (λ k. add S.p (get_or a k 0) (mul S.p c (get_or b k 0))) j l → S.n ≤ j → l ≡ plus S a (times S c b)
-  scaled_end c b F h = filling_end F h ∙ scaled_columns S a c b
-
-  pub public_end : (v : ℕ) → Filling S.n (λ k. add S.p (get_or a k 0) v) j l → S.n ≤ j → l ≡ plus S a (constant S v)
-  public_end v F h = filling_end F h ∙ public_columns S a v
+  pub constant_at : (v : ℕ) → j < S.n → get_or (constant S v) j 0 ≡ v
+  unfolding constant
+  constant_at v h = row_at_lem S.n _ j h
 
 -- seven cells of a list, one after the other
 pub cells_seven : (cells : List ℕ) (i : ℕ) → i + 7 ≤ length cells

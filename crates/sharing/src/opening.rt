@@ -66,10 +66,8 @@ fn put_marked(setting: Setting, list: &mut [u32], at: usize, row: Row)
 {
     let opening = setting.opening;
     let mut rest = opening.present;
-    let mut j = 0;
-    while j < setting.n {
+    for j in 0..setting.n {
         list[at + j] = record_number(rest % 2 == 1, row.shares[j], setting.p);
         rest = rest / 2;
-        j += 1;
     }
 }

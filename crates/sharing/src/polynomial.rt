@@ -23,36 +23,25 @@ fn value_at(p: u32, constant: u32, coefficients: &[u32], x: u32) -> u32
 }
 
 // The row of a secret's n shares.
+#[tactic(auto, unfolding(model::specs::Sharing::share))]
 pub fn share_row(p: u32, n: usize, constant: u32, coefficients: &[u32]) -> Row
     requires { Fields.Modulus p × (n ≤ 7) }
     ensures { result.shares ≡ Sharing.share p n (constant ∷ coefficients.now) }
 {
-    let mut shares = [0u32; 7];
-    let mut j = 0;
-    while j < n {
-        shares[j] = value_at(p, constant, coefficients, (j + 1) as u32);
-        j += 1;
-    }
-    Row { shares }
+    Row::of(n, |j| value_at(p, constant, coefficients, (j + 1) as u32))
 }
 
 // The first e shares less c, each divided by its party's number: what is left when the constant term c is taken off.
+#[tactic(auto, using(model::proofs::Fields::below_four))]
 fn take_off(field: usize, e: usize, row: Row, c: u32) -> Row
     requires { Fields.InUse field × (e ≤ 7) }
     ensures { result.shares ≡ Rows.row e (λ j. Ring.mul (Fields.modulus field) (Ring.sub (Fields.modulus field) (get_or row.shares j 0) c) (Fields.inverse (Fields.modulus field) (suc j))) }
 {
     let p = table::modulus(field);
-    let mut shares = [0u32; 7];
-    let mut j = 0;
-    while j < e {
-        shares[j] = arithmetic::mul(
-            p,
-            arithmetic::sub(p, row.shares[j], c),
-            table::inverse(field, j + 1),
-        );
-        j += 1;
-    }
-    Row { shares }
+    Row::of(e, |j| {
+        let left = arithmetic::sub(p, row.shares[j], c);
+        arithmetic::mul(p, left, table::inverse(field, j + 1))
+    })
 }
 
 // The t coefficients after the constant term go to the lent list. Each turn takes the last coefficient off and finds the next.
@@ -62,12 +51,10 @@ pub fn put_coefficients(field: usize, t: usize, row: Row, constant: u32, out: &m
 {
     let mut rest = row;
     let mut c = constant;
-    let mut k = 0;
-    while k < t {
+    for k in 0..t {
         let e = t - k;
         rest = take_off(field, e, rest, c);
         c = secret::value_before(table::modulus(field), e, rest, 0);
         out[k] = c;
-        k += 1;
     }
 }

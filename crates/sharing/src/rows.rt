@@ -30,17 +30,12 @@ pub fn gather(xs: &[u32]) -> Row
 }
 
 // A row of n shares of 4 bytes, from place i on.
+#[tactic(auto, unfolding(model::specs::Bytes::row_at))]
 pub fn read_row(s: &[u8], n: usize, i: usize) -> Row
     requires { (n ≤ 7) × (i + 4 * n ≤ length s.now) }
     ensures { result.shares ≡ Bytes.row_at s.now n i }
 {
-    let mut shares = [0u32; 7];
-    let mut j = 0;
-    while j < n {
-        shares[j] = words::word(s, i + 4 * j);
-        j += 1;
-    }
-    Row { shares }
+    Row::of(n, |j| words::word(s, i + 4 * j))
 }
 
 // Row k of a list of cells, seven to a row.
@@ -67,10 +62,8 @@ pub fn put_shares(list: &mut [u32], at: usize, row: Row, n: usize)
     requires { (n ≤ 7) × (at + n ≤ length list.old) }
     ensures { list.new ≡ Lists.onto_at at (take n row.shares) list.old }
 {
-    let mut j = 0;
-    while j < n {
+    for j in 0..n {
         list[at + j] = row.shares[j];
-        j += 1;
     }
 }
 
@@ -115,30 +108,23 @@ pub fn constant_row(setting: Setting, v: u32) -> Row
 }
 
 // a + c·b, in one pass: what spelled numbers and MOD's last line are made of.
+#[tactic(auto, using(crate::proofs::Columns::times_at), unfolding(model::specs::Steps::plus))]
 pub fn add_scaled(setting: Setting, a: Row, c: u32, b: Row) -> Row
     requires { Fitting setting }
     ensures { result.shares ≡ Steps.plus (setting_of setting) a.shares (Steps.times (setting_of setting) c b.shares) }
 {
-    let mut shares = [0u32; 7];
-    let mut j = 0;
-    while j < setting.n {
-        let x = arithmetic::mul(setting.p, c, b.shares[j]);
-        shares[j] = arithmetic::add(setting.p, a.shares[j], x);
-        j += 1;
-    }
-    Row { shares }
+    let p = setting.p;
+    Row::of(
+        setting.n,
+        |j| arithmetic::add(p, a.shares[j], arithmetic::mul(p, c, b.shares[j])),
+    )
 }
 
 // a + v, in one pass.
+#[tactic(auto, using(crate::proofs::Columns::constant_at), unfolding(model::specs::Steps::plus))]
 pub fn add_public(setting: Setting, a: Row, v: u32) -> Row
     requires { Fitting setting }
     ensures { result.shares ≡ Steps.plus (setting_of setting) a.shares (Steps.constant (setting_of setting) v) }
 {
-    let mut shares = [0u32; 7];
-    let mut j = 0;
-    while j < setting.n {
-        shares[j] = arithmetic::add(setting.p, a.shares[j], v);
-        j += 1;
-    }
-    Row { shares }
+    Row::of(setting.n, |j| arithmetic::add(setting.p, a.shares[j], v))
 }

@@ -19,11 +19,12 @@ pub fn index(x: u8) -> usize
 }
 
 // The number in 2 bytes from place i on.
+#[tactic(auto, unfolding(model::specs::Bytes::number))]
 pub fn half_word(s: &[u8], i: usize) -> u32
     requires { i + 2 ≤ length s.now }
     ensures { (result ≡ Bytes.number 2 s.now i) × (result < 65536) }
 {
-    wide(s[i]) + 256 * wide(s[i + 1])
+    u32::from(s[i]) + 256 * u32::from(s[i + 1])
 }
 
 // The number in 4 bytes from place i on.
