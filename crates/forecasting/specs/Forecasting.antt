@@ -1,6 +1,8 @@
 -- The code's forecasts as the definition's.
 -- Assumes nothing.
-use Rattle.std.specs.Prelude.{◌≡◌, List, [], ℕ}
+use Rattle.std.specs.Prelude.{◌≡◌, List, [], ℕ, Result}
+use Rattle.refusals.specs.declared.Refused.{Refused}
+use Rattle.refusals.specs.Numbers.{told}
 use Rattle.model.specs.Refusing.{first_failed, given}
 use Rattle.model.specs.Script.{script_of}
 use Rattle.model.specs.Sheet.{header_of, mask_bits}
@@ -8,16 +10,16 @@ use Rattle.model.specs.Run.{sheet_script}
 use Rattle.model.specs.Checks.{Supply}
 use Rattle.model.specs.Forecast as Paper
 use Rattle.sheet.specs.declared.frame.Frame.{Frame}
+use Rattle.script.specs.Meaning.{number_told, place_told}
 use Rattle.costs.specs.declared.counts.Counts.{Counts}
 use Rattle.costs.specs.Costing.{spent_of, Supplied}
-use Rattle.forecasting.specs.declared.Answer.{Answer}
 use Rattle.forecasting.specs.declared.lines.Foreseen.{Foreseen}
 
-abbrev pub answer_of : Answer → Paper.Forecast
-answer_of r = record { number = r.number; place = r.place }
+abbrev pub answer_of : Result ℕ Refused → Paper.Forecast
+answer_of r = record { number = number_told r; place = place_told r }
 
 abbrev pub foreseen_of : Foreseen → Paper.Foreseen
-foreseen_of r = record { number = r.number; place = r.place; spent = spent_of r.spent; registers = [] }
+foreseen_of r = record { number = told r.ended; place = r.place; spent = spent_of r.spent; registers = [] }
 
 -- what a script comes to with any supply that these counts are of
 abbrev pub Foresees : Frame → List ℕ → Counts → Foreseen → Type 0

@@ -11,30 +11,26 @@ ghost use Rattle.forecasting.specs.Forecasting.{answer_of, foreseen_of, by_lengt
 
 use costs::spent;
 use lines::Foreseen;
+use refusals::{Refusal, Refused};
 use sheet::frame::Frame;
 use sheet::header;
-use sheet::header::Read;
 
 // "a record of 10,850 numbers (7 shares of at most 1,024 + 16 + 510 openings) and a revealed list of 511, which no run outgrows"
 const RECORD_LENGTH: usize = 10850;
 
 const REVEALED_LENGTH: usize = 511;
 
-// "It gives number and place."
-#[derive(Clone, Copy)]
-pub struct Answer {
-    pub number: u32,
-    pub place: usize,
-}
-
-// Whether a run would come to END, by header and script: 0 and END's offset, or 1 to 4, 9 to 11 or 21 to 24 with its place.
-pub fn forecast(head: &[u8]) -> Answer
+// Whether a run would come to END, by header and script: END's offset, or 1 to 4, 9 to 11 or 21 to 24 with its place.
+pub fn forecast(head: &[u8]) -> Result<usize, Refused>
     ensures { answer_of result ≡ Paper.forecast head.now }
 {
     let found = foresee(head);
-    Answer {
-        number: found.number,
-        place: found.place,
+    match found.ended {
+        Ok(()) => Ok(found.place),
+        Err(refusal) => Err(Refused {
+            refusal,
+            place: found.place,
+        }),
     }
 }
 
@@ -42,10 +38,9 @@ pub fn forecast(head: &[u8]) -> Answer
 pub fn foresee(head: &[u8]) -> Foreseen
     ensures { foreseen_of result ≡ Paper.foreseen head.now }
 {
-    let read = header::read_header(head);
-    match read {
-        Read::Sheet(f) => by_length(head, f),
-        Read::Refused(number) => lines::stopped(number, 0),
+    match header::read_header(head) {
+        Ok(f) => by_length(head, f),
+        Err(refusal) => lines::refused(refusal, 0),
     }
 }
 
@@ -60,6 +55,6 @@ fn by_length(head: &[u8], f: Frame) -> Foreseen
         let supply = spent::supply(f, RECORD_LENGTH, REVEALED_LENGTH);
         lines::foresee_script(f, &head[from..end], supply)
     } else {
-        lines::stopped(4, 0)
+        lines::refused(Refusal::BadLength, 0)
     }
 }

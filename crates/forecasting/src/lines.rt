@@ -1,5 +1,6 @@
 // The lines of a script, gone over by cost, checks and payment alone.
 ghost use Rattle.std.specs.Prelude.{◌≡◌, ◌≤◌};
+ghost use Rattle.refusals.specs.Numbers.{number_of};
 ghost use Rattle.model.specs.Script.{script_of};
 ghost use Rattle.model.specs.Forecast as Paper;
 ghost use Rattle.script.specs.Meaning.{script_number};
@@ -8,24 +9,24 @@ ghost use Rattle.forecasting.specs.Forecasting.{foreseen_of, Foresees};
 use costs::counts::Counts;
 use costs::spent::Spent;
 use costs::{check, cost, spent};
-use script::command::Decoded;
+use refusals::Refusal;
 use script::decode;
 use sheet::frame::Frame;
 
-// The number and the place at which a run would stop, and what it would have spent and set there.
+// How and at which place a run would end, and what it would have spent and set there.
 #[derive(Clone, Copy)]
 pub struct Foreseen {
-    pub number: u32,
+    pub ended: Result<(), Refusal>,
     pub place: usize,
     pub spent: Spent,
 }
 
-// Stopped before the first command.
-pub fn stopped(number: u32, place: usize) -> Foreseen
-    ensures { foreseen_of result ≡ Paper.nothing_foreseen number place }
+// Refused before the first command.
+pub fn refused(refusal: Refusal, place: usize) -> Foreseen
+    ensures { foreseen_of result ≡ Paper.nothing_foreseen (number_of refusal) place }
 {
     Foreseen {
-        number,
+        ended: Err(refusal),
         place,
         spent: spent::nothing(),
     }
@@ -38,26 +39,22 @@ fn over_lines(f: Frame, script: &[u8], supply: Counts) -> Foreseen
 {
     let mut spent = spent::nothing();
     let mut at = 0;
-    loop {
-        let found = decode::decode(f.p, f.largest, script, at);
-        let Decoded::Command(c, next) = found else {
+    while let Ok(Some(line)) = decode::decode(f.p, f.largest, script, at) {
+        let need = cost::cost_of(f, line.command);
+        if let Err(refusal) = check::check(spent, supply, need) {
             return Foreseen {
-                number: decode::end_of(found).number,
-                place: at,
-                spent,
-            };
-        };
-        let need = cost::cost_of(f, c);
-        let number = check::check(spent, supply, need);
-        if number != 0 {
-            return Foreseen {
-                number,
+                ended: Err(refusal),
                 place: at,
                 spent,
             };
         }
         spent = spent::pay(spent, need);
-        at = next;
+        at = line.next;
+    }
+    Foreseen {
+        ended: Ok(()),
+        place: at,
+        spent,
     }
 }
 
@@ -66,9 +63,8 @@ pub fn foresee_script(f: Frame, script: &[u8], supply: Counts) -> Foreseen
     requires { (f.l ≤ 31) × (f.largest ≤ 30) }
     ensures { Foresees f script.now supply result }
 {
-    let found = script::check::check_script(f.p, f.largest, script);
-    if found.number != 0 {
-        return stopped(found.number, found.place);
+    match script::check::check_script(f.p, f.largest, script) {
+        Ok(_) => over_lines(f, script, supply),
+        Err(found) => refused(found.refusal, found.place),
     }
-    over_lines(f, script, supply)
 }
