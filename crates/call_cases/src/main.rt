@@ -6,9 +6,6 @@ ghost use Rattle.std.specs.Prelude.{◌≤◌, ◌<◌, IfSome, length};
 
 use report::number::{count, line_end, list_line, number};
 
-// The numbers that the longest buffer takes.
-const ROOM: usize = 600;
-
 fn main() {
     let mut input = [0u8; 100000];
     let got = io::read_full(0, &mut input);
@@ -29,7 +26,7 @@ fn run_case(s: &[u8]) -> Option<&[u8]>
     let size = words::word(head, 0) as usize;
     let room = words::word(head, 4) as usize;
     let (list, rest) = rest.split_at_checked(size)?;
-    if ROOM < room {
+    if 600 < room {
         return None;
     }
     import_list(list, room);
@@ -40,7 +37,7 @@ fn run_case(s: &[u8]) -> Option<&[u8]>
 fn import_list(list: &[u8], room: usize)
     requires { room ≤ 600 }
 {
-    let mut buffer = [7777777u32; ROOM];
+    let mut buffer = [7777777u32; 600];
     let seconds = &mut buffer[..room];
     let answer = calls::import(list, seconds);
     number(b"end ", refusals::number(&answer.ended));

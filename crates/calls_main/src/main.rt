@@ -31,7 +31,7 @@ fn main(rt: HostRuntime) -> ExitCode {
     }
 }
 
-pub fn calls_main(rt: &HostRuntime) -> Result<(), Failure> {
+fn calls_main(rt: &HostRuntime) -> Result<(), Failure> {
     let mut list = [0u8; BYTES_READ];
     read_list(rt, &mut list)
 }
