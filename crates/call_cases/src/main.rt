@@ -2,7 +2,7 @@
 // 4 bytes, little-endian, the lengths of the list and of the buffer; then the list.
 #![tactic(auto)]
 
-ghost use Rattle.std.specs.Prelude.{◌≤◌, length};
+ghost use Rattle.std.specs.Prelude.{◌≤◌, ◌<◌, IfSome, length};
 
 use report::number::{count, line_end, list_line, number};
 
@@ -12,47 +12,35 @@ fn main() {
     run_cases(&input[..got]);
 }
 
-fn run_cases(s: &[u8]) {
-    let mut at = 0;
-    while at < s.len() {
-        let passed = run_case(&s[at..]);
-        if passed == 0 {
-            return;
-        }
-        at += passed;
+fn run_cases(mut s: &[u8]) {
+    while let Some(rest) = run_case(s) {
+        s = rest;
     }
 }
 
-// Answers how many bytes the case has, and 0 where they are not all there or the buffer is too long.
-fn run_case(s: &[u8]) -> usize
-    ensures { result ≤ length s.now }
+// Answers what follows the case; nothing where the case is not all there or the buffer is too long.
+fn run_case(s: &[u8]) -> Option<&[u8]>
+    ensures { IfSome result (λ rest. length rest.now < length s.now) }
 {
-    if s.len() < 8 {
-        return 0;
-    }
-    let list = words::word(s, 0) as usize;
-    let room = words::word(s, 4) as usize;
-    if s.len() - 8 < list {
-        return 0;
-    }
+    let (head, rest) = s.split_at_checked(8)?;
+    let size = words::word(head, 0) as usize;
+    let room = words::word(head, 4) as usize;
+    let (list, rest) = rest.split_at_checked(size)?;
     if 600 < room {
-        return 0;
+        return None;
     }
-    import_list(&s[8..8 + list], room);
-    8 + list
+    import_list(list, room);
+    Some(rest)
 }
 
 // Lends a buffer of so many numbers, each 7777777.
 fn import_list(list: &[u8], room: usize)
     requires { room ≤ 600 }
 {
-    let mut seconds = [7777777u32; 600];
-    import_lent(list, &mut seconds[..room]);
-}
-
-fn import_lent(list: &[u8], seconds: &mut [u32]) {
+    let mut buffer = [7777777u32; 600];
+    let seconds = &mut buffer[..room];
     let answer = calls::import(list, seconds);
-    number(b"end ", answer.number);
+    number(b"end ", refusals::number(&answer.ended));
     count(b" calls ", answer.calls);
     line_end();
     list_line(b"seconds", seconds);

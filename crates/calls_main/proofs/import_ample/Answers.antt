@@ -1,9 +1,8 @@
--- `import_ample` meets its contract: no list outgrows the buffer.
+-- No list outgrows the buffer.
 -- Assumes nothing.
 use mathlib.Core.Path.{◌≡◌, sym, ap, ◌∙◌}
 use mathlib.Core.List.{List}
 use Prim.Native.Nat.{ℕ, ◌+◌, ◌*◌, ◌<◌}
-use borrow.Author.Rules.{rules}
 use lib.ListN.{length}
 use Rattle.algebra.proofs.Lists.{length_onto}
 use Rattle.model.specs.Calls as Calls
@@ -11,8 +10,7 @@ use Rattle.model.proofs.CallLists.{call_lists}
 use Rattle.calls.specs.declared.Imported.{Imported}
 use Rattle.calls.specs.Meaning.{import_of}
 use Rattle.calls_main.specs.Reading.{Ample}
-use Rattle.calls_main.proofs.import_ample.Statement.{statement}
-use Rattle.calls_main.proofs.import_ample.Tie as tie
+use Rattle.calls_main.proofs.import_ample.Goals as goal
 
 ample : (list seconds left : List ℕ) (r : Imported) → length list + 2 < 7 * (length seconds + 1) → import_of r left ≡ Calls.imported list seconds → Ample list seconds r left
 ample list seconds left r h e =
@@ -23,8 +21,5 @@ ample list seconds left r h e =
       calls = rw (ap (λ (y : Calls.Imported). y.calls) e, x.calls, ap (λ (y : Calls.Imported). y.out) e, x.out_is, length_onto x.seconds seconds x.fits) x.fits;
     }
 
-returns : tie.Need-returns
-returns c = search (rules, ample)
-
-pub import_ample_spec : {M : Type 1} → statement M
-import_ample_spec = tie.close (tie.spec (λ c κs. search rules) (λ c. search rules) returns)
+pub returns : goal.returns
+returns c = ample _ _ _ _ c.requires c.import.ensures
