@@ -30,14 +30,11 @@ fn cut_of(s: &[u8], k: u32) -> Cut
 pub fn run_cuts(s: &[u8], field: usize, setting: Setting, at: Places)
     requires { Fields.InUse field × (setting.p ≡ Fields.modulus field) × Placed s.now setting at }
 {
-    if s.len() - 40 < 4 * setting.n {
-        return;
-    }
-    if s.len() - at.mask < times(setting.l, 4 * setting.n) {
-        return;
-    }
     let k = width(s, field);
-    if k == 0 {
+    if s.len() - 40 < 4 * setting.n
+        || s.len() - at.mask < times(setting.l, 4 * setting.n)
+        || k == 0
+    {
         return;
     }
     run_cut(s, setting, at, k, cut_of(s, k));
@@ -47,13 +44,7 @@ fn run_cut(s: &[u8], setting: Setting, at: Places, k: u32, c: Cut)
     requires { Maskable s.now setting at k × (width_of c ≡ k) }
 {
     let m = cut::low(c);
-    if k <= m {
-        return;
-    }
-    if m == 0 {
-        return;
-    }
-    if setting.l < m as usize {
+    if k <= m || m == 0 || setting.l < m as usize {
         return;
     }
     run_low(s, setting, at, c, m as usize);
@@ -64,10 +55,7 @@ fn run_low(s: &[u8], setting: Setting, at: Places, c: Cut, m: usize)
 {
     let n = setting.n;
     let triples = setting.l + 2 * m - 2;
-    if s.len() - at.triple < times(triples, 12 * n) {
-        return;
-    }
-    if 1225 < n + times(triples, 2 * n) {
+    if s.len() - at.triple < times(triples, 12 * n) || 1225 < n + times(triples, 2 * n) {
         return;
     }
     let a = rows::read_row(s, n, 40);
