@@ -3,7 +3,7 @@ ghost use Rattle.std.specs.Prelude.{◌≡◌, ◌+◌, ◌-◌, ◌*◌, ◌≤
 ghost use Rattle.model.specs.Fields as Fields;
 ghost use Rattle.sharing.specs.Settings.{Fitting};
 ghost use Rattle.step_cases.specs.Words.{mask_rows};
-ghost use Rattle.step_cases.specs.Placed.{Placed, Comparable};
+ghost use Rattle.step_cases.specs.Placed.{Placed};
 
 use crate::masked;
 use crate::numbers::{times, up_to, word};
@@ -121,28 +121,17 @@ fn compare(s: &[u8], setting: Setting, at: Places)
 {
     let n = setting.n;
     let w = up_to(word(s, 5), 31);
-    if w == 0 || s.len() - 40 < times(w, 4 * n) || s.len() - at.triple < times(w - 1, 12 * n) {
+    if w == 0
+        || s.len() - 40 < times(w, 4 * n)
+        || s.len() - at.triple < times(w - 1, 12 * n)
+        || 420 < times(w - 1, 2 * n)
+    {
         return;
     }
-    compare_bits(s, setting, at, w);
-}
-
-fn compare_bits(s: &[u8], setting: Setting, at: Places, w: usize)
-    requires { Comparable s.now setting at w }
-{
     let mut cells = [0u32; 217];
-    bits::put_rows(setting.n, s, 40, w, &mut cells[..]);
-    compare_cells(s, setting, at, w, &cells[..]);
-}
-
-fn compare_cells(s: &[u8], setting: Setting, at: Places, w: usize, cells: &[u32])
-    requires { Comparable s.now setting at w × (7 * w ≤ length cells.now) }
-{
+    bits::put_rows(n, s, 40, w, &mut cells[..]);
     let v = word(s, 6);
-    if 420 < times(w - 1, 2 * setting.n) {
-        return;
-    }
     let mut log = [0u32; 420];
-    let row = comparison::comparison(setting, at, s, &mut log[..], v, w, cells);
-    answer(s, setting.n, row, &log[..], 2 * (w - 1));
+    let row = comparison::comparison(setting, at, s, &mut log[..], v, w, &cells[..]);
+    answer(s, n, row, &log[..], 2 * (w - 1));
 }
