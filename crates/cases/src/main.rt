@@ -4,20 +4,24 @@
 
 mod outcome;
 
-ghost use Rattle.std.specs.Prelude.{◌≡◌, ◌≤◌, length};
-ghost use Rattle.model.specs.Bytes as Bytes;
+ghost use Rattle.std.specs.Prelude.{◌≤◌};
 
 use machine::run;
 use outcome::outcome;
 
+// The longest sheet, and the longest lists that are lent.
+const SHEET: usize = 60000;
+
+const LOG: usize = 12000;
+
+const REVEALED: usize = 600;
+
 // Case by case, so that no list has to take them all; at most 100,000.
 fn main() {
-    let mut left = 100000usize;
-    while 0 < left {
+    for _ in 0..100000 {
         if !run_case() {
             return;
         }
-        left -= 1;
     }
 }
 
@@ -27,55 +31,29 @@ fn run_case() -> bool {
     if io::read_full(0, &mut head) < 13 {
         return false;
     }
-    let sheet = length_at(&head[..], 0);
-    let log = length_at(&head[..], 4);
-    let revealed = length_at(&head[..], 8);
-    if 60000 < sheet {
+    let size = words::word(&head, 0) as usize;
+    let n = words::word(&head, 4) as usize;
+    let m = words::word(&head, 8) as usize;
+    if size > SHEET || n > LOG || m > REVEALED {
         return false;
     }
-    if 12000 < log {
+    let mut room = [0u8; SHEET];
+    let sheet = &mut room[..size];
+    if io::read_full(0, sheet) < size {
         return false;
     }
-    if 600 < revealed {
-        return false;
-    }
-    read_sheet(sheet, head[12], log, revealed)
-}
-
-fn read_sheet(size: usize, present: u8, log: usize, revealed: usize) -> bool
-    requires { (size ≤ 60000) × (log ≤ 12000) × (revealed ≤ 600) }
-{
-    let mut room = [0u8; 60000];
-    read_into(&mut room[..], size, present, log, revealed)
-}
-
-fn read_into(room: &mut [u8], size: usize, present: u8, log: usize, revealed: usize) -> bool
-    requires { (size ≤ length room.old) × (log ≤ 12000) × (revealed ≤ 600) }
-{
-    if io::read_full(0, &mut room[..size]) < size {
-        return false;
-    }
-    run_sheet(&room[..size], present, log, revealed);
+    run_sheet(sheet, head[12], n, m);
     true
-}
-
-fn length_at(s: &[u8], i: usize) -> usize
-    requires { (12 ≤ length s.now) × (i ≤ 8) }
-    ensures { result ≡ Bytes.number 4 s.now i }
-{
-    words::word(s, i) as usize
 }
 
 // Lends a record of n numbers and a revealed list of m, each 7777777.
 fn run_sheet(s: &[u8], present: u8, n: usize, m: usize)
     requires { (n ≤ 12000) × (m ≤ 600) }
 {
-    let mut log = [7777777u32; 12000];
-    let mut revealed = [7777777u32; 600];
-    run_lent(s, present, &mut log[..n], &mut revealed[..m]);
-}
-
-fn run_lent(s: &[u8], present: u8, log: &mut [u32], revealed: &mut [u32]) {
+    let mut log = [7777777u32; LOG];
+    let log = &mut log[..n];
+    let mut revealed = [7777777u32; REVEALED];
+    let revealed = &mut revealed[..m];
     let answer = run::run(s, present, log, revealed);
     outcome(answer, log, revealed);
 }

@@ -2,35 +2,32 @@
 // reference/src/case.rs has it: 28 words of 4 bytes, little-endian.
 #![tactic(auto)]
 
-ghost use Rattle.std.specs.Prelude.{◌+◌, ◌*◌, ◌%◌, ◌^◌, ◌≤◌, min, ◌≡◌, eqb, length};
+ghost use Rattle.std.specs.Prelude.{◌+◌, ◌*◌, ◌%◌, ◌^◌, ◌≤◌, min, ◌≡◌, eqb, length, IfSome};
 ghost use Rattle.field.specs.Signed.{signed_of};
 ghost use Rattle.entries.specs.Words.{word_of, words_of};
 
 use field::coding;
-use report::number::{line_end, list, number, put, signed, wide_number};
+use report::cases::each_case;
+use report::text::{Spaced, line, put};
 
 fn main() {
     let mut input = [0u8; 131072];
     let got = io::read_full(0, &mut input);
-    run_cases(&input[..got]);
+    each_case(&input[..got], run_case);
 }
 
-fn run_cases(s: &[u8]) {
-    let mut at = 0;
-    while at < s.len() {
-        if s.len() - at < 112 {
-            return;
-        }
-        run_case(&s[at..at + 112]);
-        at += 112;
-    }
+// Answers how many bytes the case has, where they are all there.
+fn run_case(s: &[u8]) -> Option<usize>
+    ensures { IfSome result (λ n. (1 ≤ n) × (n ≤ length s.now)) }
+{
+    run_entry(s.get(..112)?);
+    Some(112)
 }
 
-fn run_case(s: &[u8])
+fn run_entry(s: &[u8])
     requires { length s.now ≡ 112 }
 {
-    let kind = word(s, 0);
-    match kind {
+    match word(s, 0) {
         0 => share(s),
         1 => recover(s),
         2 => encode(s),
@@ -48,15 +45,14 @@ fn word(s: &[u8], i: usize) -> u32
 }
 
 // The nine words of a case from word i on.
+#[tactic(auto, using(algebra::proofs::Rows::is_tab))]
 fn words(s: &[u8], i: usize) -> [u32; 9]
     requires { (length s.now ≡ 112) × (i ≤ 19) }
     ensures { (result ≡ words_of s.now i) × (9 ≡ length result) }
 {
     let mut out = [0u32; 9];
-    let mut j = 0;
-    while j < 9 {
+    for j in 0..9 {
         out[j] = word(s, i + j);
-        j += 1;
     }
     out
 }
@@ -66,36 +62,35 @@ fn length_at(s: &[u8], i: usize) -> usize
     requires { (length s.now ≡ 112) × (i ≤ 27) }
     ensures { (result ≡ min (word_of s.now i) 9) × (result ≤ 9) }
 {
-    let n = word(s, i);
-    if n < 9 { n as usize } else { 9 }
+    (word(s, i) as usize).min(9)
 }
 
-fn arguments(s: &[u8])
+// The entry, and the arguments with which most cases begin.
+fn arguments(name: &str, s: &[u8])
     requires { length s.now ≡ 112 }
 {
-    number(b" field ", word(s, 1));
-    number(b" parties ", word(s, 2));
-    number(b" threshold ", word(s, 3));
+    put(format_args!(
+        "{name} field {} parties {} threshold {}",
+        word(s, 1),
+        word(s, 2),
+        word(s, 3),
+    ));
 }
 
 fn share(s: &[u8])
     requires { length s.now ≡ 112 }
 {
     let given = words(s, 9);
-    let many = length_at(s, 8);
-    let mut lent = words(s, 19);
-    let room = length_at(s, 18);
-    share_lists(s, &given[..many], &mut lent[..room]);
-}
-
-fn share_lists(s: &[u8], coefficients: &[u32], lent: &mut [u32])
-    requires { length s.now ≡ 112 }
-{
-    put(b"share");
-    arguments(s);
-    number(b" secret ", word(s, 4));
-    list(b" coefficients", coefficients);
-    list(b" lent", lent);
+    let coefficients = &given[..length_at(s, 8)];
+    let mut buffer = words(s, 19);
+    let lent = &mut buffer[..length_at(s, 18)];
+    arguments("share", s);
+    put(format_args!(
+        " secret {} coefficients{} lent{}",
+        word(s, 4),
+        Spaced(coefficients),
+        Spaced(&*lent),
+    ));
     let answer = sharing::share(
         word(s, 1),
         word(s, 2),
@@ -104,46 +99,39 @@ fn share_lists(s: &[u8], coefficients: &[u32], lent: &mut [u32])
         coefficients,
         lent,
     );
-    number(b" : number ", answer);
-    list(b" left", lent);
-    line_end();
+    line(format_args!(" : number {answer} left{}", Spaced(&*lent)));
 }
 
 fn recover(s: &[u8])
     requires { length s.now ≡ 112 }
 {
     let given = words(s, 9);
-    let many = length_at(s, 8);
-    let mut lent = words(s, 19);
-    let room = length_at(s, 18);
-    recover_lists(s, &given[..many], &mut lent[..room]);
-}
-
-fn recover_lists(s: &[u8], row: &[u32], lent: &mut [u32])
-    requires { length s.now ≡ 112 }
-{
-    put(b"recover");
-    arguments(s);
-    list(b" row", row);
-    list(b" lent", lent);
+    let row = &given[..length_at(s, 8)];
+    let mut buffer = words(s, 19);
+    let lent = &mut buffer[..length_at(s, 18)];
+    arguments("recover", s);
+    put(format_args!(" row{} lent{}", Spaced(row), Spaced(&*lent)));
     let answer = sharing::recover(word(s, 1), word(s, 2), word(s, 3), row, lent);
-    number(b" : number ", answer.number);
-    number(b" value ", answer.value);
-    list(b" left", lent);
-    line_end();
+    line(format_args!(
+        " : number {} value {} left{}",
+        answer.number,
+        answer.value,
+        Spaced(&*lent),
+    ));
 }
 
 fn encode(s: &[u8])
     requires { length s.now ≡ 112 }
 {
     let a = signed_at(s);
-    number(b"encode field ", word(s, 1));
-    number(b" k ", word(s, 2));
-    signed(b" signed ", a);
     let answer = field::encode(word(s, 1), word(s, 2), a);
-    number(b" : number ", answer.number);
-    number(b" value ", answer.value);
-    line_end();
+    line(format_args!(
+        "encode field {} k {} signed {a} : number {} value {}",
+        word(s, 1),
+        word(s, 2),
+        answer.number,
+        answer.value,
+    ));
 }
 
 // The signed number at words 5 to 7: m, or -(m + 1) where word 5 is not 0.
@@ -151,38 +139,35 @@ fn signed_at(s: &[u8]) -> i64
     requires { length s.now ≡ 112 }
     ensures { result ≡ signed_of (eqb (word_of s.now 5) 0) (word_of s.now 7 % 2 ^ 31 * 2 ^ 32 + word_of s.now 6) }
 {
-    let high = (word(s, 7) % 2147483648) as u64;
-    let m = high * 4294967296 + word(s, 6) as u64;
+    let high = u64::from(word(s, 7) % 2147483648);
+    let m = high * 4294967296 + u64::from(word(s, 6));
     coding::signed(word(s, 5) == 0, m)
 }
 
 fn decode(s: &[u8])
     requires { length s.now ≡ 112 }
 {
-    number(b"decode field ", word(s, 1));
-    number(b" value ", word(s, 4));
     let answer = field::decode(word(s, 1), word(s, 4));
-    number(b" : number ", answer.number);
-    signed(b" signed ", answer.value);
-    line_end();
+    line(format_args!(
+        "decode field {} value {} : number {} signed {}",
+        word(s, 1),
+        word(s, 4),
+        answer.number,
+        answer.value,
+    ));
 }
 
 fn sum(s: &[u8])
     requires { length s.now ≡ 112 }
 {
     let given = words(s, 9);
-    let many = length_at(s, 8);
-    sum_list(s, &given[..many]);
-}
-
-fn sum_list(s: &[u8], row: &[u32])
-    requires { length s.now ≡ 112 }
-{
-    put(b"sum");
-    arguments(s);
-    list(b" row", row);
+    let row = &given[..length_at(s, 8)];
+    arguments("sum", s);
     let answer = sharing::sum(word(s, 1), word(s, 2), word(s, 3), row);
-    number(b" : number ", answer.number);
-    wide_number(b" sum ", answer.sum);
-    line_end();
+    line(format_args!(
+        " row{} : number {} sum {}",
+        Spaced(row),
+        answer.number,
+        answer.sum,
+    ));
 }

@@ -2,45 +2,31 @@
 // little-endian, the length of the input; then the input.
 #![tactic(auto)]
 
-ghost use Rattle.std.specs.Prelude.{◌≤◌, length};
+ghost use Rattle.std.specs.Prelude.{◌≤◌, length, IfSome};
 
-use report::number::{count, line_end, number};
+use report::cases::each_case;
+use report::text::line;
 
 fn main() {
     let mut input = [0u8; 200000];
     let got = io::read_full(0, &mut input);
-    run_cases(&input[..got]);
+    each_case(&input[..got], run_case);
 }
 
-fn run_cases(s: &[u8]) {
-    let mut at = 0;
-    while at < s.len() {
-        let passed = run_case(&s[at..]);
-        if passed == 0 {
-            return;
-        }
-        at += passed;
-    }
-}
-
-// Answers how many bytes the case has, and 0 where they are not all there.
-fn run_case(s: &[u8]) -> usize
-    ensures { result ≤ length s.now }
+// Answers how many bytes the case has, where they are all there.
+fn run_case(s: &[u8]) -> Option<usize>
+    ensures { IfSome result (λ n. (1 ≤ n) × (n ≤ length s.now)) }
 {
     if s.len() < 4 {
-        return 0;
+        return None;
     }
     let size = words::word(s, 0) as usize;
-    if s.len() - 4 < size {
-        return 0;
-    }
-    forecast_head(&s[4..4 + size]);
-    4 + size
+    let head = s.get(4..4 + size)?;
+    forecast_head(head);
+    Some(4 + size)
 }
 
 fn forecast_head(head: &[u8]) {
     let answer = forecasting::forecast(head);
-    number(b"end ", answer.number);
-    count(b" at ", answer.place);
-    line_end();
+    line(format_args!("end {} at {}", answer.number, answer.place));
 }

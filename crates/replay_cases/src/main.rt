@@ -3,20 +3,28 @@
 // each.
 #![tactic(auto)]
 
-ghost use Rattle.std.specs.Prelude.{◌≡◌, ◌+◌, ◌*◌, ◌≤◌, length};
+ghost use Rattle.std.specs.Prelude.{◌*◌, ◌≤◌, length};
 
 use replay::Answer;
 use report::lines;
-use report::number::{count, line_end, list_line};
+use report::text::{Spaced, line};
+
+// The longest head, part and record.
+const HEAD: usize = 2000;
+
+const PART: usize = 9000;
+
+const NUMBERS: usize = 12000;
+
+// Room for head, part and record one after the other, with 4 bytes for each number of the record.
+const ROOM: usize = HEAD + PART + 4 * NUMBERS;
 
 // Case by case, so that no list has to take them all; at most 100,000.
 fn main() {
-    let mut left = 100000usize;
-    while 0 < left {
+    for _ in 0..100000 {
         if !replay_case() {
             return;
         }
-        left -= 1;
     }
 }
 
@@ -26,72 +34,40 @@ fn replay_case() -> bool {
     if io::read_full(0, &mut start) < 16 {
         return false;
     }
-    let party = words::word(&start[..], 0);
-    let head = words::word(&start[..], 4) as usize;
-    let part = words::word(&start[..], 8) as usize;
-    let numbers = words::word(&start[..], 12) as usize;
-    if 2000 < head {
+    let party = words::word(&start, 0);
+    let head = words::word(&start, 4) as usize;
+    let part = words::word(&start, 8) as usize;
+    let numbers = words::word(&start, 12) as usize;
+    if head > HEAD || part > PART || numbers > NUMBERS {
         return false;
     }
-    if 9000 < part {
-        return false;
-    }
-    if 12000 < numbers {
-        return false;
-    }
-    read_lists(party, head, part, numbers)
-}
-
-// A room for head, part and record one after the other, with 4 bytes for each number of the record.
-fn read_lists(party: u32, head: usize, part: usize, numbers: usize) -> bool
-    requires { (head ≤ 2000) × (part ≤ 9000) × (numbers ≤ 12000) }
-{
-    let mut room = [0u8; 59000];
-    read_into(&mut room[..], party, head, part, numbers)
-}
-
-fn read_into(room: &mut [u8], party: u32, head: usize, part: usize, numbers: usize) -> bool
-    requires { (length room.old ≡ 59000) × (head ≤ 2000) × (part ≤ 9000) × (numbers ≤ 12000) }
-{
+    let mut room = [0u8; ROOM];
     let size = head + part + 4 * numbers;
-    if io::read_full(0, &mut room[0..size]) < size {
+    let lists = &mut room[..size];
+    if io::read_full(0, lists) < size {
         return false;
     }
-    replay_lists(party, &room[..], head, part, numbers);
+    let (head, rest) = lists.split_at(head);
+    let (part, rest) = rest.split_at(part);
+    replay_lists(party, head, part, numbers, rest);
     true
 }
 
-fn replay_lists(party: u32, s: &[u8], head: usize, part: usize, numbers: usize)
-    requires { (head + part + 4 * numbers ≤ length s.now) × (numbers ≤ 12000) }
+// Lends the record, each number from 4 bytes.
+fn replay_lists(party: u32, head: &[u8], part: &[u8], numbers: usize, s: &[u8])
+    requires { (numbers ≤ 12000) × (4 * numbers ≤ length s.now) }
 {
-    let mut log = [0u32; 12000];
-    replay_lent(party, s, head, part, &mut log[0..numbers]);
-}
-
-fn replay_lent(party: u32, s: &[u8], head: usize, part: usize, log: &mut [u32])
-    requires { head + part + 4 * length log.old ≤ length s.now }
-{
-    put_numbers(log, &s[head + part..]);
-    outcome(replay::replay(party, &s[0..head], &s[head..head + part], log));
-}
-
-// As many numbers as the list has places for, each from 4 bytes.
-fn put_numbers(log: &mut [u32], s: &[u8])
-    requires { 4 * length log.old ≤ length s.now }
-{
-    let mut i = 0;
-    while i < log.len() {
-        log[i] = words::word(s, 4 * i);
-        i += 1;
+    let mut log = [0u32; NUMBERS];
+    let log = &mut log[..numbers];
+    for (i, x) in log.iter_mut().enumerate() {
+        *x = words::word(s, 4 * i);
     }
+    outcome(replay::replay(party, head, part, log));
 }
 
 // What a replay yields: the end, how many values were revealed, and all cells.
 fn outcome(answer: Answer) {
-    let counts = answer.counts;
-    lines::end(answer.number, answer.place, counts);
-    count(b"revealed ", counts.revealed);
-    line_end();
-    let cells = answer.cells;
-    list_line(b"cells", &cells[..]);
+    lines::end(answer.number, answer.place, answer.counts);
+    line(format_args!("revealed {}", answer.counts.revealed));
+    line(format_args!("cells{}", Spaced(&answer.cells[..])));
 }

@@ -7,19 +7,10 @@ mod numbers;
 mod print;
 mod step;
 
+use report::cases::each_case;
+
 fn main() {
     let mut input = [0u8; 400000];
     let got = io::read_full(0, &mut input);
-    run_cases(&input[..got]);
-}
-
-fn run_cases(s: &[u8]) {
-    let mut at = 0;
-    while at < s.len() {
-        let passed = step::run_case(&s[at..]);
-        if passed == 0 {
-            return;
-        }
-        at += passed;
-    }
+    each_case(&input[..got], step::run_case);
 }

@@ -2,7 +2,7 @@
 ghost use Rattle.std.specs.Prelude.{◌≡◌, ◌+◌, ◌*◌, ◌≤◌, ◌<◌, length};
 ghost use Rattle.model.specs.Fields as Fields;
 ghost use Rattle.cuts.specs.Cuts.{width_of, low_of};
-ghost use Rattle.step_cases.specs.Placed.{Placed, Maskable};
+ghost use Rattle.step_cases.specs.Placed.{Placed};
 
 use crate::numbers::{times, width, word};
 use crate::print::answer;
@@ -30,44 +30,23 @@ fn cut_of(s: &[u8], k: u32) -> Cut
 pub fn run_cuts(s: &[u8], field: usize, setting: Setting, at: Places)
     requires { Fields.InUse field × (setting.p ≡ Fields.modulus field) × Placed s.now setting at }
 {
-    if s.len() - 40 < 4 * setting.n {
-        return;
-    }
-    if s.len() - at.mask < times(setting.l, 4 * setting.n) {
-        return;
-    }
+    let n = setting.n;
+    let l = setting.l;
     let k = width(s, field);
     if k == 0 {
         return;
     }
-    run_cut(s, setting, at, k, cut_of(s, k));
-}
-
-fn run_cut(s: &[u8], setting: Setting, at: Places, k: u32, c: Cut)
-    requires { Maskable s.now setting at k × (width_of c ≡ k) }
-{
-    let m = cut::low(c);
-    if k <= m {
+    let c = cut_of(s, k);
+    let m = cut::low(c) as usize;
+    if k as usize <= m || m == 0 || l < m {
         return;
     }
-    if m == 0 {
-        return;
-    }
-    if setting.l < m as usize {
-        return;
-    }
-    run_low(s, setting, at, c, m as usize);
-}
-
-fn run_low(s: &[u8], setting: Setting, at: Places, c: Cut, m: usize)
-    requires { Maskable s.now setting at (width_of c) × (low_of c ≡ m) × (1 ≤ m) × (m < width_of c) × (m ≤ setting.l) }
-{
-    let n = setting.n;
-    let triples = setting.l + 2 * m - 2;
-    if s.len() - at.triple < times(triples, 12 * n) {
-        return;
-    }
-    if 1225 < n + times(triples, 2 * n) {
+    let triples = l + 2 * m - 2;
+    if s.len() - 40 < 4 * n
+        || s.len() - at.mask < times(l, 4 * n)
+        || s.len() - at.triple < times(triples, 12 * n)
+        || 1225 < n + times(triples, 2 * n)
+    {
         return;
     }
     let a = rows::read_row(s, n, 40);

@@ -16,8 +16,7 @@ pub fn word(s: &[u8], i: usize) -> u32
 pub fn up_to(x: u32, most: usize) -> usize
     ensures { (result ≡ min x most) × (result ≤ most) }
 {
-    let y = x as usize;
-    if y < most { y } else { most }
+    (x as usize).min(most)
 }
 
 pub fn times(x: usize, y: usize) -> usize
@@ -32,7 +31,5 @@ pub fn width(s: &[u8], field: usize) -> u32
     requires { (40 ≤ length s.now) × Fields.InUse field }
     ensures { (result ≡ min (word_of s.now 4) (Fields.largest_k field)) × (result ≤ 30) × (2 ^ result < Fields.modulus field) }
 {
-    let k = word(s, 4);
-    let most = table::largest_k(field);
-    if k < most { k } else { most }
+    word(s, 4).min(table::largest_k(field))
 }

@@ -1,9 +1,9 @@
 // A case's setting and places, and its step: MUL and BITLT here.
-ghost use Rattle.std.specs.Prelude.{◌≡◌, ◌+◌, ◌-◌, ◌*◌, ◌≤◌, ◌<◌, length};
+ghost use Rattle.std.specs.Prelude.{◌≡◌, ◌+◌, ◌-◌, ◌*◌, ◌≤◌, ◌<◌, length, IfSome};
 ghost use Rattle.model.specs.Fields as Fields;
 ghost use Rattle.sharing.specs.Settings.{Fitting};
 ghost use Rattle.step_cases.specs.Words.{mask_rows};
-ghost use Rattle.step_cases.specs.Placed.{Placed, Comparable};
+ghost use Rattle.step_cases.specs.Placed.{Placed};
 
 use crate::masked;
 use crate::numbers::{times, up_to, word};
@@ -15,18 +15,19 @@ use sharing::setting::Setting;
 use steps::places::Places;
 use steps::{comparison, product};
 
-// Answers how many bytes the case has, and 0 where they are not all there, its field is not in use, or n or t is not permitted.
-pub fn run_case(s: &[u8]) -> usize
-    ensures { result ≤ length s.now }
+// Answers how many bytes the case has, where they are all there, its field is in use, and n and t are permitted.
+#[tactic(auto, using(model::proofs::Trying::setting_field, model::proofs::Trying::setting_people))]
+pub fn run_case(s: &[u8]) -> Option<usize>
+    ensures { IfSome result (λ n. (1 ≤ n) × (n ≤ length s.now)) }
 {
     if s.len() < 40 {
-        return 0;
+        return None;
     }
     let field = word(s, 1);
     let n = word(s, 2);
     let t = word(s, 3);
     if sharing::setting_number(field, n, t) != 0 {
-        return 0;
+        return None;
     }
     run_rows(
         s,
@@ -42,7 +43,7 @@ fn setting_of(field: usize, n: usize, t: usize) -> Setting
 {
     let p = table::modulus(field);
     let l = table::bits(field) as usize;
-    let present = words::wide(presence::everyone(n));
+    let present = u32::from(presence::everyone(n));
     let opening = presence::opening_of(field, n, t, present);
     Setting {
         p,
@@ -57,7 +58,7 @@ fn setting_of(field: usize, n: usize, t: usize) -> Setting
 // the places fit.
 fn places_of(s: &[u8], setting: Setting) -> Places
     requires { (40 ≤ length s.now) × Fitting setting }
-    ensures { (result.mask ≤ result.triple) × (result.triple ≤ 30000) × (result.log ≡ 0) }
+    ensures { (40 ≤ result.mask) × (result.mask ≤ result.triple) × (result.triple ≤ 30000) × (result.log ≡ 0) }
 {
     let operands = up_to(word(s, 7), 31);
     let mask = 40 + times(operands, 4 * setting.n);
@@ -69,17 +70,17 @@ fn places_of(s: &[u8], setting: Setting) -> Places
     }
 }
 
-fn run_rows(s: &[u8], field: usize, setting: Setting) -> usize
+fn run_rows(s: &[u8], field: usize, setting: Setting) -> Option<usize>
     requires { (40 ≤ length s.now) × Fields.InUse field × Fitting setting × (setting.p ≡ Fields.modulus field) }
-    ensures { result ≤ length s.now }
+    ensures { IfSome result (λ n. (1 ≤ n) × (n ≤ length s.now)) }
 {
     let at = places_of(s, setting);
     let end = at.triple + times(up_to(word(s, 9), 87), 12 * setting.n);
     if s.len() < end {
-        return 0;
+        return None;
     }
     run_step(s, field, setting, at);
-    end
+    Some(end)
 }
 
 // A mask is l rows, and a case has one or none.
@@ -104,10 +105,7 @@ fn multiply(s: &[u8], setting: Setting, at: Places)
     requires { Placed s.now setting at }
 {
     let n = setting.n;
-    if s.len() - 40 < 8 * n {
-        return;
-    }
-    if s.len() - at.triple < 12 * n {
+    if s.len() - 40 < 8 * n || s.len() - at.triple < 12 * n {
         return;
     }
     let left = rows::read_row(s, n, 40);
@@ -123,34 +121,17 @@ fn compare(s: &[u8], setting: Setting, at: Places)
 {
     let n = setting.n;
     let w = up_to(word(s, 5), 31);
-    if w == 0 {
+    if w == 0
+        || s.len() - 40 < times(w, 4 * n)
+        || s.len() - at.triple < times(w - 1, 12 * n)
+        || 420 < times(w - 1, 2 * n)
+    {
         return;
     }
-    if s.len() - 40 < times(w, 4 * n) {
-        return;
-    }
-    if s.len() - at.triple < times(w - 1, 12 * n) {
-        return;
-    }
-    compare_bits(s, setting, at, w);
-}
-
-fn compare_bits(s: &[u8], setting: Setting, at: Places, w: usize)
-    requires { Comparable s.now setting at w }
-{
     let mut cells = [0u32; 217];
-    bits::put_rows(setting.n, s, 40, w, &mut cells[..]);
-    compare_cells(s, setting, at, w, &cells[..]);
-}
-
-fn compare_cells(s: &[u8], setting: Setting, at: Places, w: usize, cells: &[u32])
-    requires { Comparable s.now setting at w × (7 * w ≤ length cells.now) }
-{
+    bits::put_rows(n, s, 40, w, &mut cells[..]);
     let v = word(s, 6);
-    if 420 < times(w - 1, 2 * setting.n) {
-        return;
-    }
     let mut log = [0u32; 420];
-    let row = comparison::comparison(setting, at, s, &mut log[..], v, w, cells);
-    answer(s, setting.n, row, &log[..], 2 * (w - 1));
+    let row = comparison::comparison(setting, at, s, &mut log[..], v, w, &cells[..]);
+    answer(s, n, row, &log[..], 2 * (w - 1));
 }

@@ -1,9 +1,6 @@
 -- `step::setting_of` meets its contract: a field in use stands in the table, and everyone is a permitted set.
 -- Assumes nothing.
-use Prim.Native.Nat.{ℕ}
-use mathlib.Core.Path.{◌≡◌, sym, subst, ◌∙◌}
-use native.Mathlib.Omega.{arith}
-use borrow.Author.Rules.{rules}
+use Rattle.std.proofs.Common.{rules, arith, ℕ, ◌≡◌, sym, subst, ◌∙◌}
 use Rattle.model.specs.Fields.{InUse, Parties, modulus, bits}
 use Rattle.model.specs.Presence.{everyone, PermittedSet}
 use Rattle.model.proofs.Fields.{below_four, fields}
@@ -11,8 +8,7 @@ use Rattle.model.proofs.Presence.{all_permitted}
 use Rattle.presence.specs.Openings.{WorkedBy}
 use Rattle.presence.specs.declared.Opening.{Opening}
 use Rattle.sharing.specs.Settings.{Fitting}
-use Rattle.step_cases.proofs.step.setting_of.Statement.{statement}
-use Rattle.step_cases.proofs.step.setting_of.Tie as tie
+use Rattle.step_cases.proofs.step.setting_of.Goals as goal
 
 all : (n t : ℕ) {a b : ℕ} → Parties n t → a ≡ everyone n → b ≡ a → PermittedSet n t b
 all n t P e q = subst (PermittedSet n t) (sym (q ∙ e)) (all_permitted n t (omega (arith, P)))
@@ -28,15 +24,11 @@ fits f n t u P ep el O =
       opens = rw ep O;
     }
 
-opening-of-requires : tie.Need-opening_of-opening-requires
-opening-of-requires c κs =
-    (c.requires.0, c.requires.1, all _ _ c.requires.1 c.everyone.ensures c.wide-present.ensures.0)
+pub bits-l-requires : goal.bits-l-requires
+bits-l-requires c = search (rules, below_four)
 
-returns : tie.Need-returns
-returns c =
-    (fits _ _ _ c.requires.0 c.requires.1 c.modulus-p.ensures.0 c.bits-l.ensures c.opening_of-opening.ensures.1, c.modulus-p.ensures.0)
+pub opening_of-opening-requires : goal.opening_of-opening-requires
+opening_of-opening-requires c = (c.requires.0, c.requires.1, search (rules, all))
 
-pub setting_of_spec : {M : Type 1} → statement M
-setting_of_spec =
-    tie.close
-    (tie.spec (λ c κs. search rules) (λ c κs. search (rules, below_four)) (λ c. search rules) (λ c κs. search rules) (λ c κs. search rules) opening-of-requires returns)
+pub returns : goal.returns
+returns c = (search (rules, fits), search rules)

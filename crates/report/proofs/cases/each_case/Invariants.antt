@@ -1,0 +1,7 @@
+-- `cases::each_case` ends: each call passes at least one byte.
+-- Assumes nothing.
+use Rattle.std.proofs.Common.{length}
+use Rattle.report.proofs.cases.each_case.Given as goal
+
+abbrev pub decreases-loop-size : goal.decreases-loop-size
+decreases-loop-size g l = length l.rest
