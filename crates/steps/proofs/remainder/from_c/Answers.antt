@@ -1,15 +1,6 @@
-use Rattle.std.proofs.Common.{rules}
-use Rattle.steps.proofs.Remainders.{all_bits, f_room, c_leaves}
-use Rattle.steps.proofs.Rooms.{room_first, room_past, room_ahead}
+use Rattle.steps.proofs.Remainders.{f_room, c_leaves}
+use Rattle.steps.proofs.Rooms.{room_past}
 use Rattle.steps.proofs.remainder.from_c.Goals as goal
-
-pub comparison-f-requires : goal.comparison-f-requires
-comparison-f-requires c =
-    (all_bits c.requires.0, room_first _ _ (f_room c.requires.0 c.requires.2))
-
-pub past-next-requires : goal.past-next-requires
-past-next-requires c =
-    room_ahead _ _ (search rules) (search rules) (f_room c.requires.0 c.requires.2)
 
 pub from_f-requires : goal.from_f-requires
 from_f-requires c =

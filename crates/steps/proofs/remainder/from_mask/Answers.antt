@@ -1,12 +1,7 @@
 use Rattle.std.proofs.Common.{rules}
 use Rattle.steps.proofs.Remainders.{mask_leaves}
 use Rattle.steps.proofs.Products.{plus_below}
-use Rattle.steps.proofs.Rooms.{room_kept}
 use Rattle.steps.proofs.remainder.from_mask.Goals as goal
-
-pub from_c-requires : goal.from_c-requires
-from_c-requires c =
-    (c.requires.0, c.open_at-c.ensures.below, rw c.past_mask-next.ensures (room_kept (search rules) c.requires.2))
 
 pub returns : goal.returns
 returns c =

@@ -1,14 +1,5 @@
 use Rattle.steps.proofs.Leaving.{comparison_then}
-use Rattle.steps.proofs.Remainders.{low_bits}
-use Rattle.steps.proofs.Rooms.{room_first, room_past}
 use Rattle.steps.proofs.remainder.from_u0.Goals as goal
-
-pub comparison-u1-requires : goal.comparison-u1-requires
-comparison-u1-requires c = (low_bits c.requires.0, room_first _ 1 c.requires.1)
-
-pub from_u1-requires : goal.from_u1-requires
-from_u1-requires c =
-    (c.requires.0, rw c.past-next.ensures (room_past _ 1 c.comparison-u1.auto.log c.requires.1))
 
 pub returns : goal.returns
 returns c =
