@@ -1,5 +1,6 @@
 -- The import, line by line.
 -- Assumes nothing.
+use Rattle.std.proofs.Common.{Ok, Err}
 use mathlib.Core.Path.{◌≡◌, refl, sym, ap, ◌∙◌}
 use mathlib.Core.Logic.{◌≢◌}
 use mathlib.Core.List.{List, [], ◌∷◌, ◌++◌, append_assoc, append-nil}
@@ -10,6 +11,9 @@ use Rattle.algebra.specs.Lists.{onto}
 use Rattle.algebra.proofs.Lists.{length_onto, onto_more}
 use Rattle.model.specs.Calls.{Parsed, found, unread, Call, lasted, wrong, line_at, seconds_of, next_of, line_number, Taken, stops_with, with_call, taken, imported}
 use Rattle.model.specs.Refusing.{first_failed, given}
+use Rattle.refusals.specs.declared.Refusal.{Refusal}
+use Rattle.refusals.specs.Numbers.{number_of}
+use Rattle.refusals.proofs.Numbers.{numbered}
 use Rattle.calls.specs.declared.Turn.{Turn}
 use Rattle.calls.specs.Meaning.{Turned}
 
@@ -79,22 +83,21 @@ module _ {list out₀ out : List ℕ} {at calls : ℕ} (I : Importing list out�
   within_out = omega (arith, out_length, I.fits)
 
   -- the line that stands here
-  module _ {turn : Turn} (h : at < length list) (T : Turned list at (length out - calls) turn) where
-    number_is : line_number (length out₀ - calls) (line_at (drop at list)) ≡ turn.number
-    number_is = rw (← out_length) (sym T.number)
-
+  module _ (h : at < length list) where
     some : 1 ≤ length (drop at list)
     some = rw length-drop (omega arith)
 
-    pub importing_stops : turn.number ≢ 0 → record { number = turn.number; calls = calls; out = out } ≡ imported list out₀
-    importing_stops k = ends_with (refused_line _ (drop at list) some (λ z. k (sym number_is ∙ z)) ∙ ap stops_with number_is)
+    pub importing_stops : {refusal : Refusal} → Turned list at (length out - calls) (Err refusal) → record { number = number_of refusal; calls = calls; out = out } ≡ imported list out₀
+    importing_stops {refusal} T =
+        let q : line_number (length out₀ - calls) (line_at (drop at list)) ≡ number_of refusal = rw (← out_length) (sym T.number) in
+        ends_with (refused_line _ (drop at list) some (λ z. omega (arith, numbered refusal, q, z)) ∙ ap stops_with q)
 
-    module _ (z : turn.number ≡ 0) where
+    module _ {turn : Turn} (T : Turned list at (length out - calls) (Ok turn)) where
       one_taken : (1 ≤ length out₀ - calls) × (taken (length out₀ - calls) (drop at list) ≡ with_call turn.seconds (taken (length out₀ - (calls + 1)) (drop turn.next list)))
       one_taken =
-          let K = taken_line (length out₀ - calls) (drop at list) some (number_is ∙ z) in
+          let K = taken_line (length out₀ - calls) (drop at list) some (rw (← out_length) (sym T.number)) in
           let r : length out₀ - calls - 1 ≡ length out₀ - (calls + 1) = omega arith in
-          (K.0, K.1 ∙ rw (T.seconds z, T.next z, r) refl)
+          (K.0, K.1 ∙ rw (T.seconds, T.next, r) refl)
 
       pub room_left : calls < length out
       room_left = omega (arith, out_length, one_taken.0)

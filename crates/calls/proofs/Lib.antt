@@ -1,4 +1,3 @@
-pub mod Tested
 pub mod Times
 pub mod Places
 pub mod Scanning

@@ -1,43 +1,58 @@
--- Where a line ends: less than a line break is left of the text, or one may stand there.
+-- Where a line ends: at the text's end, or where a line break stands.
 -- Assumes nothing.
-use mathlib.Core.Path.{◌≡◌, refl, sym, ◌∙◌}
+use Rattle.std.proofs.Common.{Some, None}
+use mathlib.Core.Path.{◌≡◌, refl, sym, ap, ◌∙◌}
 use mathlib.Core.Bool.{Bool, true, false, ◌&&◌}
 use mathlib.Core.List.{List, [], ◌∷◌}
-use Prim.Native.Nat.{ℕ, suc, ◌+◌, ◌-◌, ◌≤◌, ◌<◌}
-use native.Mathlib.Decide.{dec_lt}
-use native.Mathlib.Numerals.{add-one}
+use mathlib.Core.Logic.{◌≢◌}
+use Prim.Native.Nat.{ℕ, ◌+◌, ◌≤◌}
 use native.Mathlib.Omega.{arith}
-use borrow.Author.Tests.{eq-eqb, ne_eqb}
 use lib.Dec.{eqb}
-use lib.ListN.{length, get_or, drop, length-drop, drop_of_length-le}
-use lib.Seq.{drop-cons, drop-drop}
+use lib.ListN.{length, drop, length-drop, drop_of_length-le}
+use lib.Seq.{drop-drop}
+use Rattle.algebra.proofs.Tests.{true_false}
 use Rattle.model.specs.Calls.{CR, LF, is_end}
+use Rattle.calls.specs.Meaning.{is_first, EndsAt}
 
-one_left : (u : List ℕ) → length u ≡ 1 → false ≡ is_end u
+-- at the text's end, and before it by the two bytes that stand there
+end_here : (u : List ℕ) → u ≡ [] → is_end u ≡ true
 unfolding is_end
-one_left [] h = absurd (omega arith)
-one_left (b ∷ []) h = refl
-one_left (b ∷ c ∷ s) h = absurd (omega arith)
+end_here u e = rw e refl
 
-none_left : (u : List ℕ) → length u ≡ 0 → true ≡ is_end u
-unfolding is_end
-none_left [] h = refl
-none_left (b ∷ s) h = absurd (omega arith)
+two_bytes : (u : List ℕ) → u ≢ [] → is_end u ≡ (is_first CR u && is_first LF (drop 1 u))
+unfolding is_end is_first
+two_bytes [] h = absurd (h refl)
+two_bytes (b ∷ []) h = go (eqb b CR)
+  where
+    go : (t : Bool) → false ≡ (t && false)
+    go true = refl
+    go false = refl
+two_bytes (b ∷ c ∷ s) h = refl
 
-module _ (s : List ℕ) (at : ℕ) where
-  pub short_end : at ≤ length s → length s - at < 2 → eqb (length s) at ≡ is_end (drop at s)
-  short_end h k = go (dec_lt at (length s))
-    where
-      go : Dec (at < length s) → eqb (length s) at ≡ is_end (drop at s)
-      go (yes l) = ne_eqb (length s) at (λ e. omega (arith, e)) ∙ one_left (drop at s) (rw length-drop (omega arith))
-      go (no l) = eq-eqb (length s) at (omega arith) ∙ none_left (drop at s) (rw length-drop (omega arith))
+there : (b : ℕ) (u : List ℕ) → is_first b u ≡ true → 1 ≤ length u
+unfolding is_first
+there b [] e = absurd (true_false (sym e))
+there b (c ∷ u) e = omega arith
 
-  pub short_rest : length s - at < 2 → drop (length s) s ≡ drop 2 (drop at s)
-  short_rest k = drop_of_length-le s {i = length s} (omega arith) ∙ sym (drop_of_length-le (drop at s) {i = 2} (rw length-drop (omega arith)))
+module _ (s : List ℕ) (at : ℕ) (h : at ≤ length s) where
+  pub ends_text : at ≡ length s → EndsAt s at (Some at)
+  ends_text e =
+      let d : drop at s ≡ [] = drop_of_length-le s {i = at} (omega arith) in
+      (end_here (drop at s) d, rw d refl, h)
 
-  pub long_end : {r : Bool} → at + 2 ≤ length s → r ≡ (eqb (get_or s at 0) CR && eqb (get_or s (at + 1) 0) LF) → r ≡ is_end (drop at s)
-  unfolding is_end
-  long_end h e = e ∙ rw (drop-cons s at 0 (omega arith), add-one, drop-cons s (suc at) 0 (omega arith)) refl
+  not_empty : at ≢ length s → drop at s ≢ []
+  not_empty n e = let l : 1 ≤ length (drop at s) = rw length-drop (omega arith) in omega (arith, l, ap length e)
 
-  pub long_rest : drop (at + 2) s ≡ drop 2 (drop at s)
-  long_rest = sym (drop-drop 2 at s)
+  next : drop 1 (drop at s) ≡ drop (at + 1) s
+  next = drop-drop 1 at s
+
+  pub ends_line : {x y : Bool} → at ≢ length s → x ≡ is_first CR (drop at s) → y ≡ is_first LF (drop (at + 1) s) → x ≡ true → y ≡ true → EndsAt s at (Some (at + 2))
+  ends_line n p q e f =
+      let k : is_first LF (drop (at + 1) s) ≡ true = sym q ∙ f in
+      (two_bytes (drop at s) (not_empty n) ∙ rw (next, ← p, ← q, e, f) refl, sym (drop-drop 2 at s), omega (arith, there LF (drop (at + 1) s) k, length-drop (at + 1) s))
+
+  pub no_cr : {x : Bool} → at ≢ length s → x ≡ is_first CR (drop at s) → x ≡ false → EndsAt s at None
+  no_cr n p e = two_bytes (drop at s) (not_empty n) ∙ rw (← p, e) refl
+
+  pub no_lf : {x y : Bool} → at ≢ length s → x ≡ is_first CR (drop at s) → y ≡ is_first LF (drop (at + 1) s) → x ≡ true → y ≡ false → EndsAt s at None
+  no_lf n p q e f = two_bytes (drop at s) (not_empty n) ∙ rw (next, ← p, ← q, e, f) refl

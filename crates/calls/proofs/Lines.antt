@@ -72,7 +72,7 @@ line_from zero ts (found t rest) = cond (is_end rest) (found (call_by (ts ++ (t 
 line_from zero ts unread = unread
 line_from (suc n) ts x = line_from n (ts ++ (time_in x ∷ [])) (after_comma x)
 
-from_missing : (n : ℕ) (ts : List Time) → line_from n ts unread ≡ unread
+pub from_missing : (n : ℕ) (ts : List Time) → line_from n ts unread ≡ unread
 unfolding line_from after_comma
 from_missing zero ts = refl
 from_missing (suc n) ts = from_missing n (ts ++ (malformed ∷ []))

@@ -1,6 +1,7 @@
 -- Fields in quotes read byte by byte. What stands between the quotes is the same time as the field's value: where they differ there is a quote in both,
 -- and that is no digit.
 -- Assumes nothing.
+use Rattle.std.proofs.Common.{Some, None}
 use mathlib.Core.Path.{◌≡◌, refl, sym, ap, ◌∙◌}
 use mathlib.Core.Logic.{◌≢◌}
 use mathlib.Core.Bool.{Bool, true, false, ◌&&◌, cond}
@@ -9,7 +10,7 @@ use Prim.Native.Nat.{ℕ, suc, ◌+◌, ◌≤◌, ◌<◌}
 use native.Mathlib.Decide.{dec_lt}
 use native.Mathlib.Numerals.{add-one}
 use native.Mathlib.Omega.{arith}
-use borrow.Author.Tests.{lt-ltb, le-ltb, eq-eqb, ne_eqb, eqb-true}
+use borrow.Author.Tests.{eq-eqb, ne_eqb, eqb-true}
 use lib.Dec.{eqb}
 use lib.ListN.{length, get_or, take, drop, drop_of_length-le}
 use lib.Seq.{drop-cons, take-suc}
@@ -117,21 +118,19 @@ module _ {text : List ℕ} {i : ℕ} (Q : Quoting text i) where
       }
 
   pub quoting_closed : {r : Bool} → i < length text → get_or text i 0 ≡ DQUOTE → r ≡ is_first DQUOTE (drop (i + 1) text) → r ≡ false
-      → closed_at text i ≡ field_as_time (quoted text)
+      → closed_at text (Some i) ≡ field_as_time (quoted text)
   unfolding closed_at field_as_time
   quoting_closed h d q e =
-      rw (lt-ltb i (length text) h, step h, eq-eqb _ DQUOTE d, ← add-one i, ← q, e) (ap (λ t. found t (drop (i + 1) text)) (same_time Q.same ∙ ap time (sym (append-nil Q.said))))
+      rw (step h, eq-eqb _ DQUOTE d, ← add-one i, ← q, e) (ap (λ t. found t (drop (i + 1) text)) (same_time Q.same ∙ ap time (sym (append-nil Q.said))))
 
-  open_end : quoted text ≡ unread → closed_at text (length text) ≡ field_as_time (quoted text)
+  open_end : quoted text ≡ unread → closed_at text None ≡ field_as_time (quoted text)
   unfolding closed_at field_as_time
-  open_end e = rw (le-ltb (length text) (length text) (omega arith), e) refl
+  open_end e = rw e refl
 
   pub quoting_breaks : {r : Bool} → i < length text → get_or text i 0 ≢ DQUOTE → r ≡ alone (get_or text i 0) → r ≡ false
-      → closed_at text (length text) ≡ field_as_time (quoted text)
+      → closed_at text None ≡ field_as_time (quoted text)
   quoting_breaks h n q e = open_end (step h ∙ rw (ne_eqb _ DQUOTE n, ← q, e) refl)
 
-  pub quoting_ends : length text ≤ i → closed_at text i ≡ field_as_time (quoted text)
+  pub quoting_ends : length text ≤ i → closed_at text None ≡ field_as_time (quoted text)
   unfolding quoted
-  quoting_ends h =
-      let z : i ≡ length text = omega (arith, Q.within) in
-      rw z (open_end (Q.rest ∙ rw (drop_of_length-le text {i = i} h) refl))
+  quoting_ends h = open_end (Q.rest ∙ rw (drop_of_length-le text {i = i} h) refl)

@@ -1,15 +1,17 @@
 -- Fields read byte by byte: what was read stands before what the reader finds from the next place on.
 -- Assumes nothing.
-use mathlib.Core.Path.{◌≡◌, refl, sym, ap, ◌∙◌}
-use mathlib.Core.Bool.{Bool, true, false}
-use mathlib.Core.List.{List, [], ◌∷◌, ◌++◌, append_assoc, append-nil}
-use Prim.Native.Nat.{ℕ, suc, ◌+◌, ◌≤◌, ◌<◌}
-use native.Mathlib.Numerals.{add-one}
+use Rattle.std.specs.Prelude.{Option, Some, None, unwrap_or, ltb}
+use Rattle.std.proofs.lemmas.Bool.Decides.{nat_tests}
+use Rattle.std.specs.List.{position_or_len}
+use mathlib.Core.Path.{◌≡◌, refl, sym, ap, subst, ◌∙◌}
+use mathlib.Core.Bool.{Bool, true, false, not, cond}
+use mathlib.Core.List.{List, [], ◌∷◌, ◌++◌, append_assoc}
+use Prim.Native.Nat.{ℕ, suc, ◌+◌, ◌≤◌}
 use native.Mathlib.Omega.{arith}
-use lib.ListN.{length, get_or, take, drop, drop_of_length-le}
-use lib.Seq.{drop-cons, take-suc}
-use Rattle.model.specs.Calls.{Parsed, found, unread, is_textdata, with_byte, plain, Time, time}
-use Rattle.calls.specs.Meaning.{field_as_time}
+use lib.ListN.{length, take, drop}
+use Rattle.model.specs.Calls.{Parsed, found, unread, is_textdata, with_byte, plain, time}
+use Rattle.calls.specs.declared.time.Time.{Time}
+use Rattle.calls.specs.Meaning.{time_of, field_as_time, field_of}
 
 -- bytes u that were read before
 abbrev pub after : List ℕ → Parsed (List ℕ) → Parsed (List ℕ)
@@ -24,40 +26,36 @@ pub after_nothing : (x : Parsed (List ℕ)) → x ≡ after [] x
 after_nothing (found v rest) = refl
 after_nothing unread = refl
 
--- after i bytes that are TEXTDATA
-pub record Plain (text : List ℕ) (i : ℕ) : Type 0 where
-  pub within : i ≤ length text
-  pub rest : plain text ≡ after (take i text) (plain (drop i text))
+-- where a plain field ends: at the first byte that is not TEXTDATA
+abbrev pub stops : ℕ → Bool
+stops b = not (is_textdata b)
 
-pub plain_start : (text : List ℕ) → Plain text 0
-plain_start text = record { within = omega arith; rest = after_nothing (plain text) }
-
--- a plain field that ends here
 abbrev Found : List ℕ → ℕ → Type 0
-Found text i = plain text ≡ found (take i text) (drop i text)
+Found s n = (n ≤ length s) × (plain s ≡ found (take n s) (drop n s))
 
-module _ {text : List ℕ} {i : ℕ} (P : Plain text i) where
-  ends_here : plain (drop i text) ≡ found [] (drop i text) → Found text i
-  ends_here e = P.rest ∙ ap (after (take i text)) e ∙ ap (λ w. found w (drop i text)) (append-nil (take i text))
+one_plus : (n : ℕ) → 1 + n ≡ suc n
+one_plus n = omega arith
 
-  pub plain_more : {r : Bool} → i < length text → r ≡ is_textdata (get_or text i 0) → r ≡ true → Plain text (i + 1)
-  unfolding plain
-  plain_more h q e =
-      record {
-        within = omega arith;
-        rest = P.rest ∙ rw (add-one, drop-cons text i 0 h, take-suc text i 0 h, ← q, e) (after_byte (take i text) (get_or text i 0) (plain (drop (suc i) text)));
-      }
+found_more : (b : ℕ) (s : List ℕ) (n : ℕ) → Found s n → (t : Bool) → (cond (not (not t)) (1 + n) 0 ≤ suc (length s))
+    × (cond t (with_byte b (plain s)) (found [] (b ∷ s)) ≡ found (take (cond (not (not t)) (1 + n) 0) (b ∷ s)) (drop (cond (not (not t)) (1 + n) 0) (b ∷ s)))
+found_more b s n f true = (omega (arith, f.0), rw (f.1, one_plus n) refl)
+found_more b s n f false = (omega arith, refl)
 
-  pub plain_stops : {r : Bool} → i < length text → r ≡ is_textdata (get_or text i 0) → r ≡ false → Found text i
-  unfolding plain
-  plain_stops h q e = ends_here (rw (drop-cons text i 0 h, ← q, e) refl)
+pub plain_stops : (s : List ℕ) → Found s (position_or_len stops s)
+unfolding plain
+plain_stops [] = (omega arith, refl)
+plain_stops (b ∷ s) = found_more b s (position_or_len stops s) (plain_stops s) (is_textdata b)
 
-  pub plain_ends : length text ≤ i → Found text i
-  unfolding plain
-  plain_ends h = ends_here (rw (drop_of_length-le text {i = i} h) refl)
+-- the same by the place of that byte, where there is one
+pub by_place : (s : List ℕ) (r : Option ℕ) {n : ℕ} → r ≡ cond (ltb (position_or_len stops s) (length s)) (Some (position_or_len stops s)) None
+    → n ≡ unwrap_or r (length s) → Found s n
+by_place s r {n} e q = subst (Found s) (sym (q ∙ rw e (ended (position_or_len stops s) (length s) (plain_stops s).0))) (plain_stops s)
+  where
+    ended : (i n : ℕ) → i ≤ n → unwrap_or (cond (ltb i n) (Some i) None) n ≡ i
+    ended i n h = grind (arith, nat_tests)
 
 -- a plain field of i bytes as a time
-pub plain_time : (text : List ℕ) (i : ℕ) {t : Time} → plain text ≡ found (take i text) (drop i text) → t ≡ time (take i text)
-    → found t (drop i text) ≡ field_as_time (plain text)
-unfolding field_as_time
-plain_time text i e q = rw (e, q) refl
+pub plain_time : (text : List ℕ) (i : ℕ) (t : Time) → plain text ≡ found (take i text) (drop i text) → time_of t ≡ time (take i text)
+    → field_of text (Some (record { time = t; next = i })) ≡ field_as_time (plain text)
+unfolding field_as_time field_of
+plain_time text i t e q = rw (e, q) refl

@@ -63,8 +63,8 @@ module _ {text : List ℕ} {i v : ℕ} (S : Summing text i v) where
   pub summing_room : i < length text → v < 1000000
   summing_room h = omega (arith, S.few, S.below, ten_to i (omega (arith, S.few)))
 
-  pub summing_more : {r : Bool} {w : ℕ} → i < length text → r ≡ is_digit (get_or text i 0) → r ≡ true → w ≡ 10 * v + (get_or text i 0 - 48)
-      → Summing text (i + 1) w
+  pub summing_more : {r : Bool} {d : ℕ} → i < length text → r ≡ is_digit (get_or text i 0) → r ≡ true → d ≡ get_or text i 0 - 48
+      → Summing text (i + 1) (10 * v + d)
   unfolding all_digits decimal_from
   summing_more h q e z =
       record {

@@ -1,56 +1,54 @@
 -- One line: its number, its call and the text after it, by what was read.
 -- Assumes nothing.
-use mathlib.Core.Path.{◌≡◌, refl, sym, ap, ◌∙◌}
-use mathlib.Core.Bool.{Bool, true, false, cond}
+use Rattle.std.proofs.Common.{Option, Some, None, Ok, Err}
+use mathlib.Core.Path.{◌≡◌, refl, sym, ◌∙◌}
+use mathlib.Core.Logic.{◌≢◌}
 use mathlib.Core.List.{List}
-use Prim.Native.Nat.{ℕ, ◌+◌, ◌-◌, ◌≤◌}
+use Prim.Native.Nat.{ℕ, zero, suc, ◌+◌, ◌-◌, ◌≤◌}
 use native.Mathlib.Omega.{arith}
-use lib.Dec.{ltb}
+use borrow.Author.Tests.{lt-ltb}
 use lib.ListN.{length, take, drop, length-drop}
 use lib.Seq.{drop-drop}
-use Rattle.model.specs.Calls.{found, unread, lasted, wrong, line_at, seconds_of, next_of, line_number}
+use Rattle.model.specs.Calls.{found, lasted, line_at, line_number}
 use Rattle.model.specs.Refusing.{first_failed}
+use Rattle.refusals.specs.declared.Refusal.TheVariants.{BadLine, BadTime, SecondsFull}
 use Rattle.calls.specs.declared.line.Line.{Line}
-use Rattle.calls.specs.Meaning.{call_of, line_of, Turned}
+use Rattle.calls.specs.Meaning.{line_of, Turned}
 use Rattle.calls.proofs.Fields.{rest_from}
 
--- the number of a line by the code's tests
-tested : (f t : Bool) (c room : ℕ) (next : List ℕ)
-    → cond f (cond t (cond (ltb 0 room) 0 33) 32) 31 ≡ line_number room (cond f (found (cond t (lasted c) wrong) next) unread)
-unfolding line_number first_failed
-tested true true c room next = refl
-tested true false c room next = refl
-tested false t c room next = refl
-
-pub number_of : (line : Line) (room : ℕ) (s : List ℕ) {a b n : ℕ} → a ≡ cond (ltb 0 room) 0 33 → b ≡ cond line.call.good a 32 → n ≡ cond line.found b 31
-    → n ≡ line_number room (line_of s line)
-unfolding line_of call_of
-number_of line room s p q r = rw (r, q, p) (tested line.found line.call.good line.call.seconds room (drop line.next s))
-
--- the call and the rest of a line that is not refused
-good_line : (f t : Bool) (c room : ℕ) (next : List ℕ) → line_number room (cond f (found (cond t (lasted c) wrong) next) unread) ≡ 0
-    → (seconds_of (cond f (found (cond t (lasted c) wrong) next) unread) ≡ c) × (next_of (cond f (found (cond t (lasted c) wrong) next) unread) ≡ next)
-unfolding line_number first_failed
-good_line true true c room next e = (refl, refl)
-good_line true false c room next e = absurd (omega (arith, e))
-good_line false t c room next e = absurd (omega (arith, e))
-
-module _ (list : List ℕ) (at room : ℕ) (line : Line) {n : ℕ}
-    (e : line_of (take (length list - at) (drop at list)) line ≡ line_at (take (length list - at) (drop at list)))
-    (q : (s : List ℕ) → n ≡ line_number room (line_of s line)) where
-  here : line_at (drop at list) ≡ line_of (drop at list) line
+module _ (list : List ℕ) (at room : ℕ) (r : Option Line)
+    (e : line_of (take (length list - at) (drop at list)) r ≡ line_at (take (length list - at) (drop at list))) where
+  here : line_at (drop at list) ≡ line_of (drop at list) r
   here = sym (rw (rest_from at list) at e)
 
-  good : n ≡ 0 → (seconds_of (line_at (drop at list)) ≡ line.call.seconds) × (next_of (line_at (drop at list)) ≡ drop line.next (drop at list))
-  unfolding line_of call_of
-  good z = rw here (good_line line.found line.call.good line.call.seconds room (drop line.next (drop at list)) (sym (q (drop at list)) ∙ z))
+  pub bad_line : r ≡ None → Turned list at room (Err BadLine)
+  unfolding line_of line_number first_failed
+  bad_line w = record { number = rw (here, w) refl; seconds = tt; next = tt; within = tt }
 
-  pub turned : line.next ≤ length (take (length list - at) (drop at list)) → at ≤ length list
-      → Turned list at room (record { number = n; seconds = line.call.seconds; next = at + line.next })
-  turned h k =
-      record {
-        number = q (drop at list) ∙ ap (line_number room) (sym here);
-        seconds = λ z. sym (good z).0;
-        next = λ z. sym (drop-drop line.next at list) ∙ sym (good z).1;
-        within = let r = rw (rest_from at list, length-drop) at h in omega (arith, r);
-      }
+  pub bad_time : {line : Line} → r ≡ Some line → line.call ≡ None → Turned list at room (Err BadTime)
+  unfolding line_of line_number first_failed
+  bad_time w q = record { number = rw (here, w, q) refl; seconds = tt; next = tt; within = tt }
+
+  module _ {line : Line} {seconds : ℕ} (w : r ≡ Some line) (q : line.call ≡ Some seconds) where
+    line_is : line_at (drop at list) ≡ found (lasted seconds) (drop line.next (drop at list))
+    unfolding line_of
+    line_is = here ∙ rw (w, q) refl
+
+    pub full : room ≡ 0 → Turned list at room (Err SecondsFull)
+    unfolding line_number first_failed
+    full z = record { number = rw (line_is, z) refl; seconds = tt; next = tt; within = tt }
+
+    good : (room : ℕ) → room ≢ 0 → 0 ≡ line_number room (found (lasted seconds) (drop line.next (drop at list)))
+    unfolding line_number first_failed
+    good zero z = absurd (z refl)
+    good (suc room) z = rw (lt-ltb 0 (suc room) (omega arith)) refl
+
+    pub turned : room ≢ 0 → line.next ≤ length (take (length list - at) (drop at list)) → at ≤ length list
+        → Turned list at room (Ok (record { seconds = seconds; next = at + line.next }))
+    turned z h k =
+        record {
+          number = rw line_is (good room z);
+          seconds = rw line_is refl;
+          next = rw line_is (sym (drop-drop line.next at list));
+          within = let b = rw (rest_from at list, length-drop) at h in omega (arith, b);
+        }

@@ -7,55 +7,41 @@ mod letters;
 mod line;
 mod time;
 
-ghost use Rattle.std.specs.Prelude.{◌≡◌, cond, List, ℕ, ◌≤◌, length};
+ghost use Rattle.std.specs.Prelude.{◌≡◌, ◌≤◌, length};
 ghost use Rattle.model.specs.Calls as Calls;
-ghost use Rattle.calls.specs.Meaning.{line_of, Turned, import_of};
+ghost use Rattle.calls.specs.Meaning.{Turned, import_of};
 
-use crate::line::{Line, read_line};
+use crate::line::read_line;
+use refusals::Refusal;
 
-// "The number (0 when done) and the calls written"
-#[derive(Clone, Copy)]
+// "The number (0 when done) and the calls written": calls are written also where a line after theirs is refused.
+#[derive(Clone, Copy, Debug, PartialEq, Eq)]
 pub struct Imported {
-    pub number: u32,
+    pub ended: Result<(), Refusal>,
     pub calls: usize,
 }
 
-// The number of a test that fails, or what those after it give.
-fn failed(holds: bool, number: u32, others: u32) -> u32
-    ensures { result ≡ cond holds others number }
-{
-    if holds { others } else { number }
-}
-
-// 31, 32, 33 or 0, with so many places left in the buffer.
-fn line_number(line: Line, room: usize) -> u32
-    ensures { (s : List ℕ) → result ≡ Calls.line_number room (line_of s line) }
-{
-    let call = line.call;
-    let others = failed(call.good, 32, failed(0 < room, 33, 0));
-    failed(line.found, 31, others)
-}
-
-// What a line leaves: its number, and where that is 0 its call and the place after it.
-#[derive(Clone, Copy)]
+// A call's seconds, and the place after its line.
+#[derive(Clone, Copy, Debug, PartialEq, Eq)]
 struct Turn {
-    number: u32,
     seconds: u32,
     next: usize,
 }
 
-// The line from a place on.
-fn take_line(list: &[u8], at: usize, room: usize) -> Turn
+// The line from a place on, with so many places left in the buffer.
+fn take_line(list: &[u8], at: usize, room: usize) -> Result<Turn, Refusal>
     requires { at ≤ length list.now }
     ensures { Turned list.now at room result }
 {
-    let line = read_line(&list[at..]);
-    let call = line.call;
-    Turn {
-        number: line_number(line, room),
-        seconds: call.seconds,
-        next: at + line.next,
+    let line = read_line(&list[at..]).ok_or(Refusal::BadLine)?;
+    let seconds = line.call.ok_or(Refusal::BadTime)?;
+    if room == 0 {
+        return Err(Refusal::SecondsFull);
     }
+    Ok(Turn {
+        seconds,
+        next: at + line.next,
+    })
 }
 
 // Writes the seconds of the list's calls, line by line, to the start of the buffer.
@@ -65,16 +51,22 @@ pub fn import(list: &[u8], out: &mut [u32]) -> Imported
     let mut at = 0;
     let mut calls = 0;
     while at < list.len() {
-        let turn = take_line(list, at, out.len() - calls);
-        if turn.number != 0 {
-            return Imported {
-                number: turn.number,
-                calls,
-            };
+        match take_line(list, at, out.len() - calls) {
+            Ok(turn) => {
+                out[calls] = turn.seconds;
+                calls += 1;
+                at = turn.next;
+            }
+            Err(refusal) => {
+                return Imported {
+                    ended: Err(refusal),
+                    calls,
+                };
+            }
         }
-        out[calls] = turn.seconds;
-        calls += 1;
-        at = turn.next;
     }
-    Imported { number: 0, calls }
+    Imported {
+        ended: Ok(()),
+        calls,
+    }
 }

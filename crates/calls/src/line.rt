@@ -1,59 +1,45 @@
 // "A line is one record of the RFC's grammar", here with "four fields (line name, dialled, answered, ended)".
-ghost use Rattle.std.specs.Prelude.{◌≡◌, ◌≤◌, length, drop};
+ghost use Rattle.std.specs.Prelude.{◌≡◌, ◌≤◌, IfSome, length, drop};
 ghost use Rattle.model.specs.Calls as Calls;
-ghost use Rattle.calls.specs.Meaning.{line_of};
+ghost use Rattle.calls.specs.Meaning.{line_of, EndsAt};
 
-use crate::call::{Call, call_between};
-use crate::field::{read_field, read_next};
-use crate::letters::{CR, LF, both};
+use crate::call::call_between;
+use crate::field::{read_field, read_next, stands};
+use crate::letters::{CR, LF};
 
-// Whether a line ends here, and the place after its line break.
-#[derive(Clone, Copy)]
-struct End {
-    found: bool,
-    next: usize,
-}
-
-fn read_end(text: &[u8], at: usize) -> End
+// The place after the line break, where a line ends here.
+fn read_end(text: &[u8], at: usize) -> Option<usize>
     requires { at ≤ length text.now }
-    ensures { (result.found ≡ Calls.is_end (drop at text.now)) × (drop result.next text.now ≡ drop 2 (drop at text.now)) × (result.next ≤ length text.now) }
+    ensures { EndsAt text.now at result }
 {
-    if text.len() - at < 2 {
-        return End {
-            found: text.len() == at,
-            next: text.len(),
-        };
-    }
-    End {
-        found: both(text[at] == CR, text[at + 1] == LF),
-        next: at + 2,
+    if at == text.len() {
+        Some(at)
+    } else if stands(text, at, CR) && stands(text, at + 1, LF) {
+        Some(at + 2)
+    } else {
+        None
     }
 }
 
-// Whether there is a line of four fields, its call, and the place after it.
-#[derive(Clone, Copy)]
+// A line's call, its seconds where its times are good, and the place after the line.
+#[derive(Clone, Copy, Debug, PartialEq, Eq)]
 pub struct Line {
-    pub found: bool,
-    pub call: Call,
+    pub call: Option<u32>,
     pub next: usize,
 }
 
-// The line at the text's start.
-pub fn read_line(text: &[u8]) -> Line
-    ensures { (line_of text.now result ≡ Calls.line_at text.now) × (result.next ≤ length text.now) }
+// The line of four fields at the text's start.
+pub fn read_line(text: &[u8]) -> Option<Line>
+    ensures read { line_of text.now result ≡ Calls.line_at text.now }
+    ensures within { IfSome result (λ line. line.next ≤ length text.now) }
 {
-    let name = read_field(text);
-    let dialled = read_next(text, name);
-    let answered = read_next(text, dialled);
-    let ended = read_next(text, answered);
-    let end = read_end(text, ended.next);
-    let dialled_at = dialled.time;
-    let answered_at = answered.time;
-    let ended_at = ended.time;
-    let call = call_between(dialled_at, answered_at, ended_at);
-    Line {
-        found: both(ended.found, end.found),
-        call,
-        next: end.next,
-    }
+    let name = read_field(text)?;
+    let dialled = read_next(text, name)?;
+    let answered = read_next(text, dialled)?;
+    let ended = read_next(text, answered)?;
+    let next = read_end(text, ended.next)?;
+    Some(Line {
+        call: call_between(dialled.time, answered.time, ended.time),
+        next,
+    })
 }

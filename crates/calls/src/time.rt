@@ -1,45 +1,36 @@
 // "A time is one to seven digits."
-ghost use Rattle.std.specs.Prelude.{◌≡◌, true, ◌+◌, ◌*◌, ◌-◌, ◌<◌};
+ghost use Rattle.std.specs.Prelude.{◌≡◌};
 ghost use Rattle.model.specs.Calls as Calls;
 ghost use Rattle.calls.specs.Meaning.{time_of};
 
 use crate::letters;
 
-// A field's value as a time: none, a second of the quarter, or malformed.
-#[derive(Clone, Copy)]
+// A field's value as a time: none, a second of the quarter, or malformed. Malformed is no refusal: a line's name need not be a time.
+#[derive(Clone, Copy, Debug, PartialEq, Eq)]
 pub enum Time {
     Absent,
     At(u32),
     Malformed,
 }
 
-// The number with one digit more.
-fn with_digit(value: u32, b: u8) -> u32
-    requires { (value < 1000000) × (Calls.is_digit b ≡ true) }
-    ensures { result ≡ 10 * value + (b - 48) }
-{
-    10 * value + (words::wide(b) - 48)
-}
+// The digits that a time has at most.
+const DIGITS: usize = 7;
 
 pub fn read_time(text: &[u8]) -> Time
     ensures { time_of result ≡ Calls.time text.now }
 {
-    if text.len() == 0 {
+    if text.is_empty() {
         return Time::Absent;
     }
-    if 7 < text.len() {
+    if DIGITS < text.len() {
         return Time::Malformed;
     }
     let mut value = 0;
-    let mut i = 0;
-    while i < text.len() {
-        let b = text[i];
-        if letters::is_digit(b) {
-            value = with_digit(value, b);
-        } else {
+    for &b in text {
+        if !letters::is_digit(b) {
             return Time::Malformed;
         }
-        i += 1;
+        value = 10 * value + u32::from(b - b'0');
     }
     Time::At(value)
 }

@@ -20,12 +20,9 @@ module _ {G : Grid} {rows parties size : ℕ} (fits : Fits G rows parties size) 
   pub within : (i j : ℕ) → i < rows → j < parties → place_in G i j + 4 ≤ size
   within i j a b = omega (arith, fits.last, steps_le G.down a, steps_le G.across b)
 
-  -- so many rows from row i on, and one party
+  -- so many rows from row i on
   pub fits_on : (i k : ℕ) → i + k ≤ rows → Fits (further_on (G.down * i) G) k parties size
   fits_on i k h = record { last = omega (arith, fits.last, steps_le G.down h); steps = fits.steps; most = fits.most }
-
-  pub fits_party : (j : ℕ) → j < parties → Fits (further_on (G.across * j) G) rows 1 size
-  fits_party j h = record { last = omega (arith, fits.last, steps_le G.across h); steps = fits.steps; most = fits.most }
 
 -- two numbers, by their order
 pub data Order (a b : ℕ) : Type 0 where

@@ -14,17 +14,17 @@ use crate::layout::Layout;
 const BLOCK: usize = 256;
 
 // The first bytes, so many of them.
+#[tactic(auto, using(crate::proofs::Copying::head_copied))]
 fn copy_head(s: &[u8], count: usize, out: &mut [u8])
     requires { (count ≤ length s.now) × (count ≤ length out.old) }
     ensures { out.new ≡ onto (take count s.now) out.old }
 {
-    let mut j = 0;
-    while j < count {
-        out[j] = s[j];
-        j += 1;
-    }
+    out[..count].copy_from_slice(&s[..count]);
 }
 
+// Byte by byte, each read before one is written, which the compiler makes one read and one write of four bytes. `copy_from_slice` would ask of every share
+// whether the two places overlap, and takes two thirds longer.
+#[tactic(auto, using(crate::proofs::Copying::share_copied))]
 fn copy_share(s: &[u8], from: usize, out: &mut [u8], to: usize)
     requires { (from + 4 ≤ length s.now) × (to + 4 ≤ length out.old) }
     ensures { out.new ≡ onto_at to (take 4 (drop from s.now)) out.old }
@@ -40,34 +40,26 @@ fn copy_share(s: &[u8], from: usize, out: &mut [u8], to: usize)
 }
 
 // The shares of the grid's first party, of so many rows.
+#[tactic(auto, unfolding(crate::specs::Grids::column_copied))]
 fn copy_column(s: &[u8], from: Grid, out: &mut [u8], to: Grid, rows: usize)
     requires { Fits from rows 1 (length s.now) × Fits to rows 1 (length s.now) × (length s.now ≤ length out.old) }
     ensures { out.new ≡ column_copied s.now from to rows out.old }
 {
-    let mut read = from.first;
-    let mut write = to.first;
-    let mut k = 0;
-    while k < rows {
-        copy_share(s, read, out, write);
-        read += from.down;
-        write += to.down;
-        k += 1;
+    for i in 0..rows {
+        copy_share(s, from.first + from.down * i, out, to.first + to.down * i);
     }
 }
 
 // So many rows, of so many parties.
+#[tactic(auto, unfolding(crate::specs::Grids::rows_copied))]
 fn copy_rows(s: &[u8], from: Grid, out: &mut [u8], to: Grid, rows: usize, parties: usize)
     requires { Fits from rows parties (length s.now) × Fits to rows parties (length s.now) × (length s.now ≤ length out.old) }
     ensures { out.new ≡ rows_copied s.now from to rows parties out.old }
 {
-    let mut read = from;
-    let mut write = to;
-    let mut j = 0;
-    while j < parties {
+    for j in 0..parties {
+        let read = from.further_on(from.across * j);
+        let write = to.further_on(to.across * j);
         copy_column(s, read, out, write, rows);
-        read = read.further_on(from.across);
-        write = write.further_on(to.across);
-        j += 1;
     }
 }
 
@@ -76,16 +68,12 @@ fn copy_blocks(s: &[u8], from: Grid, out: &mut [u8], to: Grid, rows: usize, part
     requires { Fits from rows parties (length s.now) × Fits to rows parties (length s.now) × Spaced to rows parties × (length s.now ≤ length out.old) }
     ensures { Copied s.now from to rows parties out.old out.new }
 {
-    let mut read = from;
-    let mut write = to;
-    let mut left = rows;
-    while BLOCK < left {
-        copy_rows(s, read, out, write, BLOCK, parties);
-        read = read.further_on(BLOCK * from.down);
-        write = write.further_on(BLOCK * to.down);
-        left -= BLOCK;
+    for i in (0..rows).step_by(BLOCK) {
+        let count = BLOCK.min(rows - i);
+        let read = from.further_on(from.down * i);
+        let write = to.further_on(to.down * i);
+        copy_rows(s, read, out, write, count, parties);
     }
-    copy_rows(s, read, out, write, left, parties);
 }
 
 // A sheet to its column form.

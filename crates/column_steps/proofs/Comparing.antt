@@ -1,10 +1,9 @@
 -- BITLT on one column, as the code's loop has it. At bit k the steps from there on are those of the whole comparison.
 -- Assumes nothing.
 use mathlib.Core.Path.{◌≡◌, ap, subst, ◌∙◌}
-use mathlib.Core.Logic.{◌≢◌}
 use mathlib.Core.Bool.{cond}
 use mathlib.Core.List.{List}
-use Prim.Native.Nat.{ℕ, suc, ◌+◌, ◌-◌, ◌*◌, ◌/◌, ◌^◌, ◌≤◌, ◌<◌}
+use Prim.Native.Nat.{ℕ, suc, ◌+◌, ◌-◌, ◌*◌, ◌/◌, ◌≤◌, ◌<◌}
 use native.Mathlib.Omega.{arith}
 use lib.ListN.{length, take, drop}
 use lib.Seq.{drop-drop}
@@ -13,14 +12,12 @@ use Rattle.model.specs.Deal.{Row}
 use Rattle.model.specs.Trees.{Tree, odd, multiply}
 use Rattle.model.specs.Trees as Trees
 use Rattle.model.specs.Steps.{row_ops, constant, chosen}
-use Rattle.model.proofs.Trying.{given_done, given_refused}
 use Rattle.sharing.specs.Settings.{setting_of}
 use Rattle.column_steps.specs.declared.column.Column.{Column}
 use Rattle.column_steps.specs.declared.column.Ahead.{Ahead}
-use Rattle.column_steps.specs.declared.column.Outcome.{Outcome}
-use Rattle.column_steps.specs.Reads.{own_of, Working, Standing, read_from, Comes, past, compared}
-use Rattle.column_steps.proofs.Opening.{counts_on}
-use Rattle.column_steps.proofs.Coming.{comes_refused, comes_done, standing_first, standing_past}
+use Rattle.refusals.specs.declared.Refusal.{Refusal}
+use Rattle.column_steps.specs.Reads.{own_of, Working, Standing, read_from, ComesTo, Stops, past, compared}
+use Rattle.column_steps.proofs.Coming.{standing_past}
 
 -- what BITLT does from bit k on, with so many bits left
 abbrev from_bit : Column → List ℕ → ℕ → ℕ → ℕ → Row → (Row → Tree Row (List Row)) → Tree Row (List Row)
@@ -76,10 +73,7 @@ module _ {c : Column} (W : Working c) {part log : List ℕ} {v w : ℕ} {bits : 
     here : Standing c part log next 0 (1 + (C.turns - 1))
     here = rw one_turn at C.standing
 
-    pub turn_standing : Standing c part log next 0 1
-    turn_standing = standing_first 1 (C.turns - 1) here
-
-    module _ {bit : Row} {q : Outcome} (eb : bit ≡ take 7 (drop (7 * k) bits)) (P : Comes c part log next (past next 1) 0 1 (multiply bit lt) q) where
+    module _ {bit : Row} (eb : bit ≡ take 7 (drop (7 * k) bits)) where
       -- a turn, by what its product came to
       turn : (M T : ℕ) (go : Row → Tree Row (List Row))
           → read_from c part log next (0 + M) (C.turns + T) (from_bit c bits k C.turns rest lt go)
@@ -89,20 +83,19 @@ module _ {c : Column} (W : Working c) {part log : List ℕ} {v w : ℕ} {bits : 
           let m : C.turns ≡ suc (C.turns - 1) = omega (arith, one_turn) in
           rw (e, ← bit_more c bits k (C.turns - 1) rest lt eb go, ← m)
 
-      pub turn_refused : {next' : Ahead} → q.number ≢ 0 → Comes c part log at next' 0 (w - 1) (compared c v (sevens w bits)) q
-      turn_refused z =
-          comes_refused z (λ M T go. C.whole M T go ∙ turn M T go ∙ P.reads M (C.turns - 1 + T) _ ∙ given_refused q.number _ _ z)
+      pub turn_stops : {e : Refusal} → Stops c part log next 0 1 (multiply bit lt) e → Stops c part log at 0 (w - 1) (compared c v (sevens w bits)) e
+      turn_stops S = record { reads = λ M T go. C.whole M T go ∙ turn M T go ∙ S.reads M (C.turns - 1 + T) _ }
 
-      pub comparing_more : {lt' : Row} {next' : Ahead} → q.number ≡ 0 → lt' ≡ chosen (setting_of c.setting) (odd rest) bit lt q.row.shares → next' ≡ past next 1
-          → Comparing c part log v w bits at lt' (rest / 2) next' (k + 1)
-      comparing_more {lt'} {next'} z el en =
+      pub comparing_more : {q lt' : Row} {next' : Ahead} → ComesTo c part log next (past next 1) 0 1 (multiply bit lt) q
+          → lt' ≡ chosen (setting_of c.setting) (odd rest) bit lt q → next' ≡ past next 1 → Comparing c part log v w bits at lt' (rest / 2) next' (k + 1)
+      comparing_more {q} {lt'} {next'} P el en =
           record {
             turns = C.turns - 1;
             count = omega (arith, C.count);
             some = omega arith;
             places = en ∙ rw C.places further;
-            standing = rw en (standing_past 1 (C.turns - 1) here (P.there z));
-            whole = λ M T go. C.whole M T go ∙ turn M T go ∙ P.reads M (C.turns - 1 + T) _ ∙ given_done q.number _ _ z ∙ more M T go;
+            standing = rw en (standing_past 1 (C.turns - 1) here P.there);
+            whole = λ M T go. C.whole M T go ∙ turn M T go ∙ P.reads M (C.turns - 1 + T) _ ∙ more M T go;
           }
         where
           further : past (past at (k - 1)) 1 ≡ past at (k + 1 - 1)
@@ -112,24 +105,21 @@ module _ {c : Column} (W : Working c) {part log : List ℕ} {v w : ℕ} {bits : 
               rw (a, b)
 
           more : (M T : ℕ) (go : Row → Tree Row (List Row))
-              → read_from c part log (past next 1) M (C.turns - 1 + T) (from_bit c bits (k + 1) (C.turns - 1) (rest / 2) (chosen (own_of c) (odd rest) bit lt q.row.shares) go)
+              → read_from c part log (past next 1) M (C.turns - 1 + T) (from_bit c bits (k + 1) (C.turns - 1) (rest / 2) (chosen (own_of c) (odd rest) bit lt q) go)
               ≡ read_from c part log next' (0 + M) (C.turns - 1 + T) (from_bit c bits (k + 1) (C.turns - 1) (rest / 2) lt' go)
           more M T go = let z : 0 + M ≡ M = omega arith in rw (el, en, z, W.own)
 
-    -- the place behind it is a number of the code
-    pub turn_ahead : (q : ℕ) → q ≡ 0 → (q ≡ 0 → c.reader.n * (next.opening + 2 * 1) ≤ length log) → length part < 2 ^ 64 → length log < 2 ^ 64
-        → (next.triple + 12 * 1 < 2 ^ 64) × (next.opening + 2 * 1 < 2 ^ 64)
-    turn_ahead q z l hp hl = (omega (arith, turn_standing.triples), counts_on log (next.opening + 2 * 1) W (l z) hl)
-
-  pub comparing_end : {lt : Row} {rest : ℕ} {next : Ahead} {k : ℕ} {r : Outcome} → Comparing c part log v w bits at lt rest next k → w ≤ k → r.number ≡ 0 → r.row.shares ≡ lt
-      → Comes c part log at (past at (w - 1)) 0 (w - 1) (compared c v (sevens w bits)) r
+  pub comparing_end : {lt : Row} {rest : ℕ} {next : Ahead} {k : ℕ} → Comparing c part log v w bits at lt rest next k → w ≤ k
+      → ComesTo c part log at (past at (w - 1)) 0 (w - 1) (compared c v (sevens w bits)) lt
   unfolding Trees.comparison_from sevens
-  comparing_end {lt} {next = next} {k} C h e er =
+  comparing_end {lt} {next = next} {k} C h =
       let z : C.turns ≡ 0 = omega (arith, C.count) in
       let kw : k - 1 ≡ w - 1 = omega (arith, C.count) in
       let p : next ≡ past at (w - 1) = C.places ∙ rw kw in
-      comes_done e (subst (λ (x : Ahead). c.reader.n * x.opening ≤ length log) p C.standing.openings)
-      (λ M T go.
-      let a : 0 + M ≡ M = omega arith in
-      let b : 0 + T ≡ T = omega arith in
-      C.whole M T go ∙ rw (z, a, b, er) (ap (λ (x : Ahead). read_from c part log x M T (go lt)) p))
+      record {
+        reads = λ M T go.
+            let a : 0 + M ≡ M = omega arith in
+            let b : 0 + T ≡ T = omega arith in
+            C.whole M T go ∙ rw (z, a, b) (ap (λ (x : Ahead). read_from c part log x M T (go lt)) p);
+        there = subst (λ (x : Ahead). c.reader.n * x.opening ≤ length log) p C.standing.openings;
+      }

@@ -1,20 +1,22 @@
--- An opening of the record, and what follows: by the number and the value that reading it gave.
+-- An opening of the record, and what follows: by the value or the refusal that reading it gave.
 -- Assumes nothing.
-use mathlib.Core.Path.{◌≡◌, refl, sym, ap, ◌∙◌}
+use mathlib.Core.Path.{◌≡◌, sym, ap, ◌∙◌}
 use mathlib.Core.Bool.{true}
 use mathlib.Core.List.{List}
-use Prim.Native.Nat.{ℕ, zero, suc, ◌+◌, ◌*◌, ◌^◌, ◌≤◌, ◌<◌}
+use Prim.Native.Nat.{ℕ, ◌+◌, ◌*◌, ◌^◌, ◌≤◌, ◌<◌}
 use native.Mathlib.Nat.{mul-le-mul_right}
 use native.Mathlib.Omega.{arith}
 use lib.Dec.{leb, leb→le}
 use lib.ListN.{length, drop, length-drop}
 use lib.Seq.{drop-drop}
+use Rattle.std.specs.Prelude.{Result, Ok, Err, IfOk}
 use Rattle.algebra.proofs.Tests.{and_left}
 use Rattle.model.specs.Deal.{Row}
-use Rattle.model.specs.Refusing.{given}
-use Rattle.model.specs.Replay.{Read, stopped, own_share, opening, opened_value, opening_tests, opening_number, from_record}
-use Rattle.model.proofs.Trying.{numbered, holding, all_hold}
-use Rattle.from_record.specs.declared.Opened.{Opened}
+use Rattle.model.specs.Replay.{own_share, opening, opened_value, opening_tests, opening_number, from_record}
+use Rattle.model.proofs.Trying.{numbered, holding, all_hold, given_refused}
+use Rattle.refusals.specs.declared.Refusal.{Refusal}
+use Rattle.refusals.specs.Numbers.{number_of, told}
+use Rattle.refusals.proofs.Numbers.{numbered as numbered_above}
 use Rattle.column_steps.specs.declared.column.Column.{Column}
 use Rattle.column_steps.specs.Reads.{Working, record_from, OpensNext}
 
@@ -35,22 +37,19 @@ module _ {c : Column} (W : Working c) (log : List ℕ) (read : ℕ) (x : Row) wh
       let e : c.reader.n * read + c.reader.n ≡ c.reader.n * (read + 1) = omega arith in
       drop-drop c.reader.n (c.reader.n * read) log ∙ ap (λ (k : ℕ). drop k log) e
 
-  pub opens_next : {r : Opened} → (r.number ≡ number) × (r.number ≡ 0 → r.value ≡ value) × (r.value < c.reader.p) → OpensNext c log read x r
+  pub opens_next : (r : Result ℕ Refusal) → told r ≡ number → IfOk r (λ v. (v ≡ value) × (v < c.reader.p)) → OpensNext c log read x r
   unfolding from_record
-  opens_next {r} h =
+  opens_next (Ok v) e h =
       record {
-        reads = λ go. rw (← W.same_p, ← h.0, next_record) (either r.number refl go);
-        there = λ z.
-            let l = long_enough _ _ _ _ _ _ (sym h.0 ∙ z) in
+        reads = λ go. rw (← W.same_p, ← e, next_record, h.0);
+        there =
+            let l = long_enough _ _ _ _ _ _ (sym e) in
             let q : length (record_from c log read) ≡ _ = length-drop (c.reader.n * read) log in
             omega (arith, l, q);
-        below = rw W.same_p at h.2;
+        below = rw W.same_p at h.1;
       }
-    where
-      either : (k : ℕ) → r.number ≡ k → (go : ℕ → List ℕ → Read (List Row))
-          → given k (go value (record_from c log (read + 1))) (stopped k) ≡ given k (go r.value (record_from c log (read + 1))) (stopped k)
-      either zero e go = rw (h.1 e)
-      either (suc k) e go = refl
+  opens_next (Err refusal) e h =
+      record { reads = λ go. rw (← W.same_p, ← e) (given_refused (number_of refusal) _ _ (λ z. omega (arith, numbered_above refusal))) }
 
 -- an opening that is there has a place that is a number of the code
 pub counts_on : {c : Column} (log : List ℕ) (read : ℕ) → Working c → c.reader.n * read ≤ length log → length log < 2 ^ 64 → read < 2 ^ 64

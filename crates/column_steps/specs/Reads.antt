@@ -1,20 +1,20 @@
 -- One party's column, worked by the record: what a step asks, and what it comes to.
 -- Assumes nothing.
-use Rattle.std.specs.Prelude.{◌≡◌, List, ℕ, ◌+◌, ◌*◌, ◌≤◌, ◌<◌, length, drop}
+use Rattle.std.specs.Prelude.{◌≡◌, List, ℕ, ◌+◌, ◌*◌, ◌≤◌, ◌<◌, length, drop, Result, MatchResult}
 use Rattle.model.specs.Presence.{everyone}
-use Rattle.model.specs.Refusing.{given}
 use Rattle.model.specs.Deal.{Setting, Row, Deal}
 use Rattle.model.specs.Trees.{Tree}
 use Rattle.model.specs.Trees as Trees
 use Rattle.model.specs.Steps.{row_ops}
 use Rattle.model.specs.Sheet.{masks_from, triples_from}
 use Rattle.model.specs.Replay.{Read, stopped, one_column, from_record, by_record}
+use Rattle.refusals.specs.declared.Refusal.{Refusal}
+use Rattle.refusals.specs.Numbers.{number_of}
+use Rattle.secret.specs.declared.Row.{Row as Shares}
 use Rattle.sharing.specs.Settings.{setting_of, Fitting}
-use Rattle.from_record.specs.declared.Opened.{Opened}
 use Rattle.from_record.specs.Reading.{Reading}
 use Rattle.column_steps.specs.declared.column.Column.{Column}
 use Rattle.column_steps.specs.declared.column.Ahead.{Ahead}
-use Rattle.column_steps.specs.declared.column.Outcome.{Outcome}
 
 -- the setting of the table whose record it is: its rows have n shares
 abbrev pub table_of : Column → Setting
@@ -54,22 +54,34 @@ record_from c log read = drop (c.reader.n * read) log
 abbrev pub read_from : Column → List ℕ → List ℕ → Ahead → ℕ → ℕ → Tree Row (List Row) → Read (List Row)
 read_from c part log at M T tree = by_record (table_of c) c.reader.party tree (deal_from c part at M T) (record_from c log at.opening)
 
--- an opening of the row x, so many having been read: whatever follows goes on with the value, or is refused
-pub record OpensNext (c : Column) (log : List ℕ) (read : ℕ) (x : Row) (r : Opened) : Type 0 where
-  pub reads : (go : ℕ → List ℕ → Read (List Row))
-      → from_record (table_of c) c.reader.party x (record_from c log read) go ≡ given r.number (go r.value (record_from c log (read + 1))) (stopped r.number)
-  pub there : r.number ≡ 0 → c.reader.n * (read + 1) ≤ length log
-  pub below : r.value < c.setting.p
+-- an opening of the row x, so many having been read: whatever follows goes on with the value v
+pub record OpensTo (c : Column) (log : List ℕ) (read : ℕ) (x : Row) (v : ℕ) : Type 0 where
+  pub reads : (go : ℕ → List ℕ → Read (List Row)) → from_record (table_of c) c.reader.party x (record_from c log read) go ≡ go v (record_from c log (read + 1))
+  pub there : c.reader.n * (read + 1) ≤ length log
+  pub below : v < c.setting.p
+
+-- or it is refused
+pub record StopsAt (c : Column) (log : List ℕ) (read : ℕ) (x : Row) (e : Refusal) : Type 0 where
+  pub reads : (go : ℕ → List ℕ → Read (List Row)) → from_record (table_of c) c.reader.party x (record_from c log read) go ≡ stopped (number_of e)
+
+abbrev pub OpensNext : Column → List ℕ → ℕ → Row → Result ℕ Refusal → Type 0
+OpensNext c log read x r = MatchResult r (OpensTo c log read x) (StopsAt c log read x)
 
 -- a step, and what follows
 abbrev pub Builder : Type 0
 Builder = (Row → Tree Row (List Row)) → Tree Row (List Row)
 
--- What a step with m masks and k triples comes to, at these places and with the next ones: whatever follows goes on from the row, or is refused.
-pub record Comes (c : Column) (part log : List ℕ) (at next : Ahead) (m k : ℕ) (step : Builder) (r : Outcome) : Type 0 where
-  pub reads : (M T : ℕ) (go : Row → Tree Row (List Row))
-      → read_from c part log at (m + M) (k + T) (step go) ≡ given r.number (read_from c part log next M T (go r.row.shares)) (stopped r.number)
-  pub there : r.number ≡ 0 → c.reader.n * next.opening ≤ length log
+-- A step with m masks and k triples, at these places: whatever follows goes on from the row x, with the next places.
+pub record ComesTo (c : Column) (part log : List ℕ) (at next : Ahead) (m k : ℕ) (step : Builder) (x : Row) : Type 0 where
+  pub reads : (M T : ℕ) (go : Row → Tree Row (List Row)) → read_from c part log at (m + M) (k + T) (step go) ≡ read_from c part log next M T (go x)
+  pub there : c.reader.n * next.opening ≤ length log
+
+-- or it is refused
+pub record Stops (c : Column) (part log : List ℕ) (at : Ahead) (m k : ℕ) (step : Builder) (e : Refusal) : Type 0 where
+  pub reads : (M T : ℕ) (go : Row → Tree Row (List Row)) → read_from c part log at (m + M) (k + T) (step go) ≡ stopped (number_of e)
+
+abbrev pub Comes : Column → List ℕ → List ℕ → Ahead → Ahead → ℕ → ℕ → Builder → Result Shares Refusal → Type 0
+Comes c part log at next m k step r = MatchResult r (λ x. ComesTo c part log at next m k step x.shares) (Stops c part log at m k step)
 
 -- BITLT as a step
 abbrev pub compared : Column → ℕ → List Row → Builder

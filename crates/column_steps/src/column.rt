@@ -2,7 +2,8 @@
 ghost use Rattle.std.specs.Prelude.{◌≡◌, ◌+◌, ◌*◌, ◌^◌, ◌≤◌, ◌<◌, length};
 ghost use Rattle.column_steps.specs.Reads.{Working, OpensNext, past, past_mask};
 
-use from_record::{Opened, Reader};
+use from_record::Reader;
+use refusals::Refusal;
 use secret::Row;
 use sharing::setting::Setting;
 
@@ -21,39 +22,34 @@ pub struct Ahead {
     pub opening: usize,
 }
 
-// The number of a refusal, or 0 and the row that a step leaves.
-#[derive(Clone, Copy)]
-pub struct Outcome {
-    pub number: u32,
-    pub row: Row,
-}
-
-// Past so many triples, with two openings each.
-pub fn past(at: Ahead, triples: usize) -> Ahead
-    requires { (at.triple + 12 * triples < 2 ^ 64) × (at.opening + 2 * triples < 2 ^ 64) }
-    ensures { result ≡ past at triples }
-{
-    Ahead {
-        mask: at.mask,
-        triple: at.triple + 12 * triples,
-        opening: at.opening + 2 * triples,
+impl Ahead {
+    // Past so many triples, with two openings each.
+    pub fn past(self, triples: usize) -> Ahead
+        requires { (self.triple + 12 * triples < 2 ^ 64) × (self.opening + 2 * triples < 2 ^ 64) }
+        ensures { result ≡ past self triples }
+    {
+        Ahead {
+            mask: self.mask,
+            triple: self.triple + 12 * triples,
+            opening: self.opening + 2 * triples,
+        }
     }
-}
 
-// Past a mask of l bits, with its opening.
-pub fn past_mask(at: Ahead, l: usize) -> Ahead
-    requires { (at.mask + 4 * l < 2 ^ 64) × (at.opening + 1 < 2 ^ 64) }
-    ensures { result ≡ past_mask l at }
-{
-    Ahead {
-        mask: at.mask + 4 * l,
-        triple: at.triple,
-        opening: at.opening + 1,
+    // Past a mask of l bits, with its opening.
+    pub fn past_mask(self, l: usize) -> Ahead
+        requires { (self.mask + 4 * l < 2 ^ 64) × (self.opening + 1 < 2 ^ 64) }
+        ensures { result ≡ past_mask l self }
+    {
+        Ahead {
+            mask: self.mask + 4 * l,
+            triple: self.triple,
+            opening: self.opening + 1,
+        }
     }
 }
 
 // A row of one share is opened, so many openings having been read: the record's next n numbers give the value, or a refusal.
-pub fn open_row(c: Column, log: &[u32], read: usize, row: Row) -> Opened
+pub fn open_row(c: Column, log: &[u32], read: usize, row: Row) -> Result<u32, Refusal>
     requires { Working c × (c.reader.n * read ≤ length log.now) }
     ensures { OpensNext c log.now read row.shares result }
 {

@@ -1,65 +1,47 @@
 -- The marks of a span of registers, one after the other: tested, and set.
 -- Assumes nothing.
-use mathlib.Core.Path.{◌≡◌, refl, ap}
+use mathlib.Core.Path.{◌≡◌, refl, sym, ap, ◌∙◌}
 use mathlib.Core.Bool.{Bool, true, false, ◌&&◌}
-use mathlib.Core.List.{List, [], ◌∷◌, ◌++◌}
-use Prim.Native.Nat.{ℕ, suc, ◌+◌, ◌-◌, ◌≤◌, ◌<◌}
+use mathlib.Core.List.{List, [], ◌∷◌, ◌++◌, append_assoc}
+use Prim.Native.Nat.{ℕ, zero, suc, ◌+◌, ◌-◌, ◌≤◌, ◌<◌}
+use native.Mathlib.Nat.{add-zero}
 use native.Mathlib.Omega.{arith}
-use lib.ListN.{get_or, set}
+use lib.ListN.{length, get_or, set, take, drop, replicate, take-append-drop, length-drop, length-set}
+use lib.Seq.{drop-cons, drop-drop, length-take-le, take-suc-set}
+use borrow.Rule.Slice.PartMut.{put_mid}
+use Rattle.std.specs.List.{list_all}
+use Rattle.std.proofs.lemmas.List.{drop-set-lt}
 use Rattle.algebra.specs.Lists.{from}
 use Rattle.model.specs.Checks.{all_set, marked}
 
--- the registers b to b + w − 1 from the i-th on
-abbrev pub rest : ℕ → ℕ → ℕ → List ℕ
-rest b w i = from (b + i) (w - i)
+-- tested, as the library has it
+pub all_listed : (w b : ℕ) (marks : List Bool) → b + w ≤ length marks → list_all (λ x. x) (take w (drop b marks)) ≡ all_set marks (from b w)
+unfolding all_set from
+all_listed zero b marks h = refl
+all_listed (suc w) b marks h =
+    let l : b < length marks = omega arith in
+    rw (drop-cons marks b false l) (ap (λ x. get_or marks b false && x) (all_listed w (suc b) marks (omega arith)))
 
-module _ (b w : ℕ) where
-  pub start : rest b w 0 ≡ from b w
-  start =
-      let e : b + 0 ≡ b = omega arith in
-      let k : w - 0 ≡ w = omega arith in
-      rw (e, k)
+pub span_set : (marks : List Bool) (b w : ℕ) → b + w ≤ length marks → list_all (λ x. x) (take (b + w - b) (drop b marks)) ≡ all_set marks (from b w)
+span_set marks b w h = let e : b + w - b ≡ w = omega arith in rw e (all_listed w b marks h)
 
-  pub turn : (i : ℕ) → i < w → rest b w i ≡ (b + i) ∷ rest b w (i + 1)
-  unfolding from
-  turn i h =
-      let e : w - i ≡ suc (w - (i + 1)) = omega arith in
-      let k : b + (i + 1) ≡ suc (b + i) = omega arith in
-      rw (e, k)
+-- set, as what stands before them, so many marks, and what stands after them
+filled : (w d : ℕ) (marks : List Bool) → d + w ≤ length marks → take d marks ++ (replicate w true ++ drop (d + w) marks) ≡ marked marks (from d w)
+unfolding marked from
+filled zero d marks h = rw add-zero (take-append-drop d marks)
+filled (suc w) d marks h =
+    let e : d + suc w ≡ suc d + w = omega arith in
+    rw e
+    (sym (append_assoc (take d marks) (true ∷ []) (replicate w true ++ drop (suc d + w) marks))
+    ∙ sym (rw (take-suc-set marks d true (omega arith), drop-set-lt (suc d + w) marks d true (omega arith)) refl)
+    ∙ filled w (suc d) (set marks d true) (rw length-set (omega arith)))
 
-  pub end : (i : ℕ) → w ≤ i → rest b w i ≡ []
-  unfolding from
-  end i h = let e : w - i ≡ 0 = omega arith in rw e
-
--- tested: of those from the i-th on
-module _ (marks : List Bool) (b w : ℕ) where
-  pub set_start : all_set marks (rest b w 0) ≡ all_set marks (from b w)
-  set_start = ap (all_set marks) (start b w)
-
-  pub set_more : (i : ℕ) → i < w → get_or marks (b + i) false ≡ true → all_set marks (rest b w (i + 1)) ≡ all_set marks (rest b w i)
-  unfolding all_set
-  set_more i h e = rw (turn b w i h, e)
-
-  pub set_not : (i : ℕ) → i < w → get_or marks (b + i) false ≡ false → false ≡ all_set marks (rest b w i)
-  unfolding all_set
-  set_not i h e = rw (turn b w i h, e)
-
-  pub set_end : (i : ℕ) → w ≤ i → true ≡ all_set marks (rest b w i)
-  unfolding all_set
-  set_end i h = rw (end b w i h)
-
--- set: those from the i-th on
-module _ (b w : ℕ) where
-  pub mark_start : (marks : List Bool) → marked marks (rest b w 0) ≡ marked marks (from b w)
-  mark_start marks = ap (marked marks) (start b w)
-
-  pub mark_more : (marks : List Bool) (i : ℕ) → i < w → marked (set marks (b + i) true) (rest b w (i + 1)) ≡ marked marks (rest b w i)
-  unfolding marked
-  mark_more marks i h = rw (turn b w i h)
-
-  pub mark_end : (marks : List Bool) (i : ℕ) → w ≤ i → marks ≡ marked marks (rest b w i)
-  unfolding marked
-  mark_end marks i h = rw (end b w i h)
+pub span_marked : (marks : List Bool) (d w : ℕ) → d + w ≤ length marks → {ys : List Bool}
+    → ys ≡ replicate (length (take (d + w - d) (drop d marks))) true → put_mid d (d + w - d) marks ys ≡ marked marks (from d w)
+span_marked marks d w h q =
+    let e : d + w - d ≡ w = omega arith in
+    let l : length (take w (drop d marks)) ≡ w = length-take-le w (drop d marks) (rw length-drop (omega arith)) in
+    rw (q, e, l, drop-drop w d marks) (filled w d marks h)
 
 pub set_append : (marks : List Bool) (xs ys : List ℕ) → all_set marks (xs ++ ys) ≡ all_set marks xs && all_set marks ys
 unfolding all_set

@@ -13,36 +13,37 @@ pub struct Counts {
     pub revealed: usize,
 }
 
-fn made(inputs: usize, masks: usize, triples: usize, openings: usize, revealed: usize) -> Counts
-    ensures { counts_of result ≡ record { inputs = inputs; masks = masks; triples = triples; openings = openings; revealed = revealed } }
-{
-    Counts {
-        inputs,
-        masks,
-        triples,
-        openings,
-        revealed,
-    }
-}
-
 // "all counts 0"
 pub fn none() -> Counts
     ensures { counts_of result ≡ Paper.no_counts }
 {
-    made(0, 0, 0, 0, 0)
+    Counts {
+        inputs: 0,
+        masks: 0,
+        triples: 0,
+        openings: 0,
+        revealed: 0,
+    }
 }
 
 // LOAD's, and REVEAL's.
 pub fn one_input() -> Counts
     ensures { counts_of result ≡ Costs.of_input }
 {
-    made(1, 0, 0, 0, 0)
+    Counts {
+        inputs: 1,
+        ..none()
+    }
 }
 
 pub fn one_revealed() -> Counts
     ensures { counts_of result ≡ Costs.of_reveal }
 {
-    made(0, 0, 0, 1, 1)
+    Counts {
+        openings: 1,
+        revealed: 1,
+        ..none()
+    }
 }
 
 // So many triples, two openings each.
@@ -50,7 +51,11 @@ pub fn of_triples(n: usize) -> Counts
     requires { n ≤ 1000 }
     ensures { counts_of result ≡ Costs.of_triples n }
 {
-    made(0, 0, n, 2 * n, 0)
+    Counts {
+        triples: n,
+        openings: 2 * n,
+        ..none()
+    }
 }
 
 // A mask and MOD's triples for m: "one mask, ℓ + 2m − 2 triples, and 1 + 2(ℓ + 2m − 2) openings".
@@ -59,7 +64,12 @@ pub fn of_mask(l: usize, m: u32) -> Counts
     ensures { counts_of result ≡ Costs.of_mask (Costs.mod_triples l m) }
 {
     let triples = l + 2 * m as usize - 2;
-    made(0, 1, triples, 1 + 2 * triples, 0)
+    Counts {
+        masks: 1,
+        triples,
+        openings: 1 + 2 * triples,
+        ..none()
+    }
 }
 
 // LTZS: h masks, with the triples of MOD of m for each.
@@ -68,7 +78,12 @@ pub fn of_masks(l: usize, h: usize, m: u32) -> Counts
     ensures { counts_of result ≡ Costs.of_masks h (Costs.mod_triples l m) }
 {
     let one = of_mask(l, m);
-    made(0, h, h * one.triples, h * one.openings, 0)
+    Counts {
+        masks: h,
+        triples: h * one.triples,
+        openings: h * one.openings,
+        ..none()
+    }
 }
 
 // What was spent before, and then.
@@ -76,13 +91,13 @@ pub fn added(x: Counts, y: Counts) -> Counts
     requires { Summing x y }
     ensures { counts_of result ≡ Paper.added (counts_of x) (counts_of y) }
 {
-    made(
-        x.inputs + y.inputs,
-        x.masks + y.masks,
-        x.triples + y.triples,
-        x.openings + y.openings,
-        x.revealed + y.revealed,
-    )
+    Counts {
+        inputs: x.inputs + y.inputs,
+        masks: x.masks + y.masks,
+        triples: x.triples + y.triples,
+        openings: x.openings + y.openings,
+        revealed: x.revealed + y.revealed,
+    }
 }
 
 // What is left of a supply.
@@ -90,11 +105,11 @@ pub fn left(supply: Counts, spent: Counts) -> Counts
     requires { Within (counts_of spent) (counts_of supply) }
     ensures { counts_of result ≡ left_of (counts_of supply) (counts_of spent) }
 {
-    made(
-        supply.inputs - spent.inputs,
-        supply.masks - spent.masks,
-        supply.triples - spent.triples,
-        supply.openings - spent.openings,
-        supply.revealed - spent.revealed,
-    )
+    Counts {
+        inputs: supply.inputs - spent.inputs,
+        masks: supply.masks - spent.masks,
+        triples: supply.triples - spent.triples,
+        openings: supply.openings - spent.openings,
+        revealed: supply.revealed - spent.revealed,
+    }
 }

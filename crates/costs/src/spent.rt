@@ -17,6 +17,7 @@ pub struct Spent {
 }
 
 // "A run starts with all registers unset, all counts 0"
+#[tactic(auto, unfolding(model::specs::Run::nothing_spent))]
 pub fn nothing() -> Spent
     ensures { spent_of result ≡ Run.nothing_spent }
 {
@@ -27,28 +28,24 @@ pub fn nothing() -> Spent
 }
 
 // The marks with registers d to d + w − 1 set.
-fn mark(marks: [bool; 64], d: usize, w: usize) -> [bool; 64]
+fn mark(mut marks: [bool; 64], d: usize, w: usize) -> [bool; 64]
     requires { d + w ≤ 64 }
     ensures { result ≡ Paper.marked marks (from d w) }
 {
-    let mut after = marks;
-    let mut i = 0;
-    while i < w {
-        after[d + i] = true;
-        i += 1;
-    }
-    after
+    marks[d..d + w].fill(true);
+    marks
 }
 
 // A finished command's cost is paid: its counts, and the registers that it wrote are set.
+#[tactic(auto, unfolding(model::specs::Checks::pay))]
 pub fn pay(spent: Spent, need: Cost) -> Spent
     requires { Summing spent.counts need.counts × (need.target.from + need.target.size ≤ 64) }
     ensures { spent_of result ≡ Paper.pay (cost_of need) (spent_of spent) }
 {
-    let counts = counts::added(spent.counts, need.counts);
-    let before = spent.marks;
-    let marks = mark(before, need.target.from, need.target.size);
-    Spent { counts, marks }
+    Spent {
+        counts: counts::added(spent.counts, need.counts),
+        marks: mark(spent.marks, need.target.from, need.target.size),
+    }
 }
 
 // What there is, by the header and by the buffers: the record has place for log / n openings of n shares.

@@ -25,11 +25,11 @@ pub fn width(c: Cut) -> u32
     ensures { result ≡ width_of c }
 {
     match c {
-        Cut::Mod { k, .. } => k,
-        Cut::Trunc { k, .. } => k,
-        Cut::Ltz { k } => k,
-        Cut::Over { k, .. } => k,
-        Cut::Blocks { k, .. } => k,
+        Cut::Mod { k, .. }
+        | Cut::Trunc { k, .. }
+        | Cut::Ltz { k }
+        | Cut::Over { k, .. }
+        | Cut::Blocks { k, .. } => k,
     }
 }
 
@@ -39,11 +39,8 @@ pub fn low(c: Cut) -> u32
     ensures { result ≡ low_of c }
 {
     match c {
-        Cut::Mod { m, .. } => m,
-        Cut::Trunc { m, .. } => m,
-        Cut::Ltz { k } => k - 1,
-        Cut::Over { k, .. } => k - 1,
-        Cut::Blocks { m, .. } => m,
+        Cut::Mod { m, .. } | Cut::Trunc { m, .. } | Cut::Blocks { m, .. } => m,
+        Cut::Ltz { k } | Cut::Over { k, .. } => k - 1,
     }
 }
 
@@ -62,9 +59,7 @@ pub fn before(setting: Setting, c: Cut, a: Row) -> Row
     ensures { result.shares ≡ before_row (setting_of setting) c a.shares }
 {
     match c {
-        Cut::Mod { .. } => a,
-        Cut::Trunc { .. } => a,
-        Cut::Ltz { .. } => a,
+        Cut::Mod { .. } | Cut::Trunc { .. } | Cut::Ltz { .. } => a,
         Cut::Over { v, .. } => rows::sub_rows(setting, rows::constant_row(setting, v), a),
         Cut::Blocks { m, .. } => sum_row(setting, m, a),
     }
@@ -94,10 +89,10 @@ pub fn after(setting: Setting, c: Cut, m: u32, x: Row, remainder: Row) -> Row
 {
     match c {
         Cut::Mod { .. } => remainder,
-        Cut::Trunc { .. } => quotient_row(setting, m, x, remainder),
-        Cut::Ltz { .. } => sign_row(setting, quotient_row(setting, m, x, remainder)),
-        Cut::Over { .. } => sign_row(setting, quotient_row(setting, m, x, remainder)),
-        Cut::Blocks { .. } => quotient_row(setting, m, x, remainder),
+        Cut::Trunc { .. } | Cut::Blocks { .. } => quotient_row(setting, m, x, remainder),
+        Cut::Ltz { .. } | Cut::Over { .. } => {
+            sign_row(setting, quotient_row(setting, m, x, remainder))
+        }
     }
 }
 

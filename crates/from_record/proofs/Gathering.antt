@@ -2,7 +2,6 @@
 -- Assumes nothing.
 use mathlib.Core.Path.{◌≡◌, sym, ◌∙◌}
 use mathlib.Core.Logic.{◌≢◌}
-use mathlib.Core.Bool.{Bool, true, false}
 use mathlib.Core.List.{List, [], ◌∷◌}
 use Prim.Native.Nat.{ℕ, zero, suc, ◌+◌, ◌-◌, ◌*◌, ◌/◌, ◌%◌, ◌^◌, ◌≤◌, ◌<◌}
 use native.Mathlib.Nat.{pow-suc}
@@ -14,10 +13,9 @@ use lib.ListN.{length, get_or, set}
 use lib.Pow.{pow_mono}
 use lib.Seq.{get_or-set_same, get_or-set_other}
 use Rattle.algebra.proofs.Lists.{below_nil, below_cons}
-use Rattle.algebra.proofs.Tests.{true_false}
 use Rattle.model.specs.Presence.{bit}
 use Rattle.presence.proofs.Presences.{below_set}
-use Rattle.from_record.specs.Showing.{is_share, Gathered, Further, ShownIn}
+use Rattle.from_record.specs.Showing.{is_share, Gathered, Further}
 use Rattle.from_record.specs.declared.shown.Shown.{Shown}
 
 -- a bit before the others
@@ -37,19 +35,16 @@ bits_more p n j b c xs h e k (suc i) l = let s : j + suc i ≡ suc j + i = omega
 small_more : (n j b c : ℕ) → j < n → c < 2 → b < 2 ^ (n - suc j) → 2 * b + c < 2 ^ (n - j)
 small_more n j b c l h k = let e : n - j ≡ suc (n - suc j) = omega arith in rw e (omega (arith, pow-suc 2 (n - suc j)))
 
-module _ {p j number : ℕ} {x y : Shown} where
-  pub share_more : length x.shares ≡ 7 → j < 7 → number < p
-      → y ≡ record { shares = set x.shares j number; present = 2 * x.present + 1; fits = x.fits } → Further p j number x y
-  share_more s l h q = (
-    rw q,
-    λ n xs m e G. rw q (record {
-      most = λ i a b. most n xs e G i (ℕ_discrete i j) a b;
-      below = below_set x.shares j G.below h;
-      same = λ i a b d. same n xs e G i (ℕ_discrete i j) a b d;
-      bits = bits_more p n j x.present 1 xs (omega arith) (rw (e, ne_eqb number p (λ o. omega arith))) G.bits;
-      small = small_more n j x.present 1 m (omega arith) G.small;
-    }),
-  )
+module _ {p j number : ℕ} {x : Shown} where
+  pub share_more : length x.shares ≡ 7 → j < 7 → number < p → Further p j number x (record { shares = set x.shares j number; present = 2 * x.present + 1 })
+  share_more s l h n xs m e G =
+      record {
+        most = λ i a b. most n xs e G i (ℕ_discrete i j) a b;
+        below = below_set x.shares j G.below h;
+        same = λ i a b d. same n xs e G i (ℕ_discrete i j) a b d;
+        bits = bits_more p n j x.present 1 xs (omega arith) (rw (e, ne_eqb number p (λ o. omega arith))) G.bits;
+        small = small_more n j x.present 1 m (omega arith) G.small;
+      }
     where
       most : (n : ℕ) (xs : List ℕ) → get_or xs j 0 ≡ number → Gathered p n (suc j) xs x → (i : ℕ) → Dec (i ≡ j) → j ≤ i → i < n → get_or xs i 0 ≤ p
       most n xs e G i (yes o) a b = rw (o, e) (omega arith)
@@ -60,17 +55,17 @@ module _ {p j number : ℕ} {x y : Shown} where
       same n xs e G i (yes o) a b d = rw (o, get_or-set_same x.shares j number 0 (omega arith)) (sym e)
       same n xs e G i (no o) a b d = get_or-set_other x.shares j i number 0 o ∙ G.same i (omega arith) b d
 
-  pub none_more : number ≤ p → p ≤ number → y ≡ record { shares = x.shares; present = 2 * x.present; fits = x.fits } → Further p j number x y
-  none_more u v q = (
-    rw q,
-    λ n xs m e G. let o : number ≡ p = omega arith in let z : 2 * x.present ≡ 2 * x.present + 0 = omega arith in rw (q, z) (record {
-      most = λ i a b. most n xs e G i (ℕ_discrete i j) a b;
-      below = G.below;
-      same = λ i a b d. G.same i (other n xs e i (ℕ_discrete i j) a d) b d;
-      bits = bits_more p n j x.present 0 xs (omega arith) (rw (e, eq-eqb number p o)) G.bits;
-      small = small_more n j x.present 0 m (omega arith) G.small;
-    }),
-  )
+  pub none_more : number ≤ p → p ≤ number → Further p j number x (record { shares = x.shares; present = 2 * x.present })
+  none_more u v n xs m e G =
+      let o : number ≡ p = omega arith in
+      let z : 2 * x.present ≡ 2 * x.present + 0 = omega arith in
+      rw z (record {
+        most = λ i a b. most n xs e G i (ℕ_discrete i j) a b;
+        below = G.below;
+        same = λ i a b d. G.same i (other n xs e i (ℕ_discrete i j) a d) b d;
+        bits = bits_more p n j x.present 0 xs (omega arith) (rw (e, eq-eqb number p o)) G.bits;
+        small = small_more n j x.present 0 m (omega arith) G.small;
+      })
     where
       most : (n : ℕ) (xs : List ℕ) → get_or xs j 0 ≡ number → Gathered p n (suc j) xs x → (i : ℕ) → Dec (i ≡ j) → j ≤ i → i < n → get_or xs i 0 ≤ p
       most n xs e G i (yes o) a b = rw (o, e) u
@@ -81,7 +76,7 @@ module _ {p j number : ℕ} {x y : Shown} where
       other n xs e i (no o) a d = omega arith
 
 -- before the first turn
-pub gathered_start : (p n : ℕ) (xs : List ℕ) {b : Bool} → 0 < p → Gathered p n n xs (record { shares = 0 ∷ 0 ∷ 0 ∷ 0 ∷ 0 ∷ 0 ∷ 0 ∷ []; present = 0; fits = b })
+pub gathered_start : (p n : ℕ) (xs : List ℕ) → 0 < p → Gathered p n n xs (record { shares = 0 ∷ 0 ∷ 0 ∷ 0 ∷ 0 ∷ 0 ∷ 0 ∷ []; present = 0 })
 gathered_start p n xs h =
     record {
       most = λ i a b. absurd (omega arith);
@@ -96,16 +91,5 @@ module _ {p n j : ℕ} {xs : List ℕ} {x : Shown} (G : Gathered p n j xs x) whe
   pub small_word : 1 ≤ j → n ≤ 7 → x.present < 64
   small_word a l = omega (arith, G.small, pow_mono {i = n - j} {j = 6} (omega arith))
 
-  small_byte : x.present < 2 ^ n
+  pub small_byte : x.present < 2 ^ n
   small_byte = omega (arith, G.small, pow_mono {i = n - j} {j = n} (omega arith))
-
-  -- a number above p
-  pub above_p : {y : Shown} (i : ℕ) → i < n → p < get_or xs i 0 → y.present ≡ x.present → y.fits ≡ false → ShownIn p n xs y
-  above_p i h a e f = record {
-    gathered = λ q. absurd (true_false (sym q ∙ f));
-    above = λ q k. omega (arith, k i h);
-    parties_only = rw e small_byte;
-  }
-
-pub all_gathered : {p n : ℕ} {xs : List ℕ} {x : Shown} → Gathered p n 0 xs x → x.fits ≡ true → ShownIn p n xs x
-all_gathered G e = record { gathered = λ q. G; above = λ q. absurd (true_false (sym e ∙ q)); parties_only = small_byte G }

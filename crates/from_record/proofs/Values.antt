@@ -1,16 +1,21 @@
 -- What the windows of an opening give, against the model's reading of it; and the numbers of an opening.
 -- Assumes nothing.
 use mathlib.Core.Path.{◌≡◌, refl, sym, ap, ◌∙◌}
-use mathlib.Core.Logic.{◌≢◌, ◌↔◌}
+use mathlib.Core.Logic.{◌≢◌}
 use mathlib.Core.Bool.{Bool, true, false, cond}
 use mathlib.Core.List.Memᴰ.{head as here}
 use mathlib.Core.List.Memᴰ.{tail as there}
+use Rattle.std.specs.Prelude.{Ok, Err, Option, Some, None, MatchOption}
+use Rattle.std.specs.Option.{ok_or}
+use Rattle.refusals.specs.declared.Refusal.TheVariants.{BadOpening}
+use Rattle.refusals.specs.declared.Refusal.{Refusal}
+use Rattle.refusals.specs.Numbers.{number_of}
 use mathlib.Core.List.{List, [], ◌∷◌, Memᴰ as In}
 use Prim.Native.Nat.{ℕ, zero, suc, ◌+◌, ◌-◌, ◌^◌, ◌≤◌, ◌<◌}
 use native.Mathlib.Decide.{dec_lt, ℕ_discrete}
 use native.Mathlib.Omega.{arith}
 use borrow.Author.Tests.{eq-eqb, ne_eqb}
-use lib.Dec.{T, eqb}
+use lib.Dec.{eqb}
 use lib.ListN.{length, get_or, drop, take, length-drop}
 use lib.Seq.{get_or-drop}
 use Rattle.algebra.specs.Lists.{from}
@@ -23,14 +28,12 @@ use Rattle.model.specs.Sharing.{at, value_from}
 use Rattle.model.specs.Refusing.{first_failed}
 use Rattle.model.specs.Replay.{opening, present_at, opened_value, opening_number}
 use Rattle.model.specs.Replays.{OnOne, Openings}
-use Rattle.model.proofs.Polynomials.{positive}
 use Rattle.model.proofs.Presence.{presence, openers_in}
 use Rattle.model.proofs.RecordOpenings.{enough_there, openings}
 use Rattle.model.proofs.Windows.{value_same, present_after, window, after_all, windows_on_one, on_one_windows}
-use Rattle.from_record.specs.Showing.{is_share, Gathered, ShownIn}
+use Rattle.from_record.specs.Showing.{is_share, Gathered}
 use Rattle.from_record.specs.Windowed.{without, WindowsOf, window_value, AllGive}
-use Rattle.from_record.specs.Reading.{FoundIn, Finding, own_tests}
-use Rattle.from_record.specs.declared.Opened.{Opened}
+use Rattle.from_record.specs.Reading.{FoundIn, own_tests}
 use Rattle.from_record.specs.declared.shown.Shown.{Shown}
 use Rattle.from_record.specs.declared.windows.Windows.{Windows}
 use Rattle.from_record.proofs.Sets.{kept, gone, after, enough_permitted, permitted_enough, permitted_openers}
@@ -58,14 +61,6 @@ present_at_lem p n t b x (j ∷ js) k = rw (k j (here refl), present_at_lem p n 
 -- no share is p
 present_share : (p v : ℕ) → is_share p v ≡ true → v ≢ p
 present_share p v e q = true_false (sym e ∙ rw (eq-eqb v p q))
-
--- what is found of an opening's shares
-refuses : {p n t : ℕ} (log : List ℕ) → 0 < p → (OnOne p n t (opening p n t log) → ⊥) → FoundIn p n t log (record { number = 42; value = 0 })
-refuses log h k = record { on_one = λ e. absurd (omega arith); value_is = λ e. absurd (omega arith); refused = λ e. refl; not_on_one = λ e. k; value_below = h }
-
-finds : {p n t v : ℕ} (log : List ℕ) → OnOne p n t (opening p n t log) × (v ≡ opened_value p n t (opening p n t log)) → v < p
-    → FoundIn p n t log (record { number = 0; value = v })
-finds log k h = record { on_one = λ e. k.0; value_is = λ e. k.1; refused = λ e. absurd (e refl); not_on_one = λ e. absurd (e refl); value_below = h }
 
 module _ {p n t : ℕ} (M : Modulus p) (P : Parties n t) (log : List ℕ) {x : Shown} (G : Gathered p n 0 log x) where
   abbrev b : ℕ
@@ -136,34 +131,40 @@ module _ {p n t : ℕ} (M : Modulus p) (P : Parties n t) (log : List ℕ) {x : S
         (λ z l. let c = enough_after z l in sym (value_is z (allowed z c) low) ∙ (rw e at (k z c)))
 
     -- no window: too few shares are present
-    pub found_none : w.count ≤ 0 → FoundIn p n t log (record { number = 42; value = 0 })
-    found_none h = refuses log (positive M) (λ o. omega (arith, enough_after 0 (rw (after_all p n t y) (enough_there M P y o))))
+    none_found : w.count ≤ 0 → OnOne p n t y → ⊥
+    none_found h o = omega (arith, enough_after 0 (rw (after_all p n t y) (enough_there M P y o)))
 
-    module _ {v : ℕ} {s : Bool} (h : 0 < w.count) (q : v ≡ window_value p n t w.present x.shares 0) (k : T s ↔ AllGive p n t w x.shares v) where
-      pub found_same : v < p → s ≡ true → FoundIn p n t log (record { number = 0; value = v })
-      found_same l r = let o = all_on_one h (k.0 (rw r tt)) in finds log (o, q ∙ on_one_all o 0 h) l
+    -- whether they are on one, by what the windows give
+    on_one_value : {v : ℕ} → 0 < w.count → AllGive p n t w x.shares v → OnOne p n t y × (v ≡ opened_value p n t y)
+    on_one_value h k = let o = all_on_one h k in (o, sym (k 0 h) ∙ on_one_all o 0 h)
 
-      pub found_other : s ≡ false → FoundIn p n t log (record { number = 42; value = 0 })
-      found_other r = refuses log (positive M) (λ o. let u : v ≡ opened_value p n t y = q ∙ on_one_all o 0 h in rw r at (k.1 (rw u (on_one_all o))))
+    no_value : ((v : ℕ) → 0 < w.count → AllGive p n t w x.shares v → ⊥) → OnOne p n t y → ⊥
+    no_value k o = go (dec_lt 0 w.count)
+      where
+        go : Dec (0 < w.count) → ⊥
+        go (yes h) = k (opened_value p n t y) h (on_one_all o)
+        go (no h) = none_found (omega arith) o
+
+    -- by what was looked for
+    pub found : (r : Option ℕ) → MatchOption r ((v : ℕ) → 0 < w.count → AllGive p n t w x.shares v → ⊥) (λ v. (0 < w.count) × AllGive p n t w x.shares v × (v < p))
+        → FoundIn p n t log (ok_or r BadOpening)
+    found None k = (refl, no_value k)
+    found (Some v) k = let o = on_one_value k.0 k.1 in (o.0, o.1, k.2)
 
 -- a number above p
-pub found_above : {p n t : ℕ} {log : List ℕ} {x : Shown} → 0 < p → ShownIn p n log x → x.fits ≡ false → FoundIn p n t log (record { number = 42; value = 0 })
-found_above {p} {n} {t} {log} h S e =
-    refuses {t = t} log h (λ o. S.above e (λ i l. let a : 1 ≤ suc i = omega arith in rw (share_at p n t log i l) at (o.most (suc i) a l)))
-
-pub found_shown : {p n t : ℕ} {log : List ℕ} {x : Shown} {y : Opened} → ShownIn p n log x → x.fits ≡ true → Finding p n t x y → FoundIn p n t log y
-found_shown S e F = F _ (S.gathered e)
+pub above_p : {p n : ℕ} (t : ℕ) (log : List ℕ) → (((i : ℕ) → i < n → get_or log i 0 ≤ p) → ⊥) → OnOne p n t (opening p n t log) → ⊥
+above_p {p} {n} t log k o = k (λ i l. let a : 1 ≤ suc i = omega arith in rw (share_at p n t log i l) at (o.most (suc i) a l))
 
 -- the own share: it is absent, or the same, or another
-pub own_absent : {p share : ℕ} (own : ℕ) → share ≡ p → 0 ≡ first_failed (own_tests p own share)
+own_absent : {p share : ℕ} (own : ℕ) → share ≡ p → 0 ≡ first_failed (own_tests p own share)
 unfolding first_failed
 own_absent {p} {share} own e = rw (eq-eqb share p e)
 
-pub own_same : {p own share : ℕ} → (share ≡ p → ⊥) → share ≡ own → 0 ≡ first_failed (own_tests p own share)
+own_same : {p own share : ℕ} → (share ≡ p → ⊥) → share ≡ own → 0 ≡ first_failed (own_tests p own share)
 unfolding first_failed
 own_same {p} {own} {share} n e = rw (ne_eqb share p n, eq-eqb share own e)
 
-pub own_differs : {p own share : ℕ} → (share ≡ p → ⊥) → (share ≡ own → ⊥) → 41 ≡ first_failed (own_tests p own share)
+own_differs : {p own share : ℕ} → (share ≡ p → ⊥) → (share ≡ own → ⊥) → 41 ≡ first_failed (own_tests p own share)
 unfolding first_failed
 own_differs {p} {own} {share} n m = rw (ne_eqb share p n, ne_eqb share own m)
 
@@ -178,12 +179,12 @@ module _ (f own : ℕ) {p n t j : ℕ} (q : p ≡ modulus f) (U : InUse f) (P : 
   pub too_short : length log - at' < n → 43 ≡ opening_number p n t j own rest
   too_short s = sym (numbers.too_short (rw length-drop (omega arith)))
 
-  pub refused_number : {x : Opened} → n ≤ length log - at' → FoundIn p n t rest x → x.number ≢ 0 → x.number ≡ opening_number p n t j own rest
-  refused_number s F e = F.refused e ∙ sym (numbers.not_on_one (rw length-drop (omega arith)) (F.not_on_one e))
+  pub refused_number : (e : Refusal) → n ≤ length log - at' → FoundIn p n t rest (Err e) → number_of e ≡ opening_number p n t j own rest
+  refused_number e s F = F.0 ∙ sym (numbers.not_on_one (rw length-drop (omega arith)) F.1)
 
-  pub own_compared : {x : Opened} {r : ℕ} → n ≤ length log - at' → FoundIn p n t rest x → x.number ≡ 0
+  pub own_compared : (v : ℕ) {r : ℕ} → n ≤ length log - at' → FoundIn p n t rest (Ok v)
       → r ≡ first_failed (own_tests p own (get_or log (at' + (j - 1)) 0)) → r ≡ opening_number p n t j own rest
-  own_compared {x} {r} s F e k = go (ℕ_discrete share p) (ℕ_discrete share own)
+  own_compared v {r} s F k = go (ℕ_discrete share p) (ℕ_discrete share own)
     where
       share : ℕ
       share = get_or log (at' + (j - 1)) 0
@@ -195,6 +196,6 @@ module _ (f own : ℕ) {p n t j : ℕ} (q : p ≡ modulus f) (U : InUse f) (P : 
       is = own_share_lem p n t log at' j l u
 
       go : Dec (share ≡ p) → Dec (share ≡ own) → r ≡ opening_number p n t j own rest
-      go (yes a) c = k ∙ sym (own_absent own a) ∙ sym (numbers.absent fits (F.on_one e) (is ∙ a))
-      go (no a) (yes c) = k ∙ sym (own_same a c) ∙ sym (numbers.same fits (F.on_one e) (is ∙ c))
-      go (no a) (no c) = k ∙ sym (own_differs a c) ∙ sym (numbers.differs fits (F.on_one e) (λ z. a (sym is ∙ z)) (λ z. c (sym is ∙ z)))
+      go (yes a) c = k ∙ sym (own_absent own a) ∙ sym (numbers.absent fits F.0 (is ∙ a))
+      go (no a) (yes c) = k ∙ sym (own_same a c) ∙ sym (numbers.same fits F.0 (is ∙ c))
+      go (no a) (no c) = k ∙ sym (own_differs a c) ∙ sym (numbers.differs fits F.0 (λ z. a (sym is ∙ z)) (λ z. c (sym is ∙ z)))

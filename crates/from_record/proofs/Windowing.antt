@@ -1,13 +1,11 @@
 -- The loop over the sets that a byte leaves, and that over what their lowest parties give.
 -- Assumes nothing.
-use mathlib.Core.Path.{◌≡◌, refl, sym, ◌∙◌}
-use mathlib.Core.Logic.{◌≢◌, ◌↔◌}
+use mathlib.Core.Path.{◌≡◌, sym, subst, ◌∙◌}
 use mathlib.Core.Bool.{Bool, true, false}
-use mathlib.Core.List.{List, [], ◌∷◌}
-use Prim.Native.Nat.{ℕ, zero, suc, ◌+◌, ◌^◌, ◌≤◌, ◌<◌}
+use mathlib.Core.List.{List}
+use Prim.Native.Nat.{ℕ, ◌+◌, ◌^◌, ◌≤◌, ◌<◌}
 use native.Mathlib.Decide.{ℕ_discrete}
 use native.Mathlib.Omega.{arith}
-use lib.Dec.{T}
 use lib.ListN.{length, get_or, set, length-set}
 use lib.Seq.{get_or-set_same, get_or-set_other}
 use Rattle.model.specs.Fields.{Modulus, Parties}
@@ -17,19 +15,9 @@ use Rattle.presence.specs.Openings.{WorkedBy}
 use Rattle.presence.specs.declared.Opening.{Opening}
 use Rattle.sharing.specs.Settings.{Fitting}
 use Rattle.sharing.specs.declared.setting.Setting.{Setting}
-use Rattle.from_record.specs.Windowed.{without, WindowsOf, window_value, AllGive}
+use Rattle.from_record.specs.Windowed.{without, WindowsOf, window_value}
 use Rattle.from_record.specs.declared.windows.Windows.{Windows}
 use Rattle.from_record.proofs.Sets.{no_later, none_past}
-
--- the table of powers
-pub power_at : (z : ℕ) → z < 6 → ◌≡◌ {A = ℕ} (get_or (1 ∷ 2 ∷ 4 ∷ 8 ∷ 16 ∷ 32 ∷ []) z 0) (2 ^ z)
-power_at zero h = refl
-power_at (suc zero) h = refl
-power_at (suc (suc zero)) h = refl
-power_at (suc (suc (suc zero))) h = refl
-power_at (suc (suc (suc (suc zero)))) h = refl
-power_at (suc (suc (suc (suc (suc zero))))) h = refl
-power_at (suc (suc (suc (suc (suc (suc z)))))) h = absurd (omega arith)
 
 -- the test of a set
 pub is_permitted : {n t b : ℕ} {r : Bool} → r ≡ permitted_set n t b → r ≡ true → PermittedSet n t b
@@ -81,8 +69,9 @@ module _ {p n t b z : ℕ} {os : List Opening} (W : Windowing p n t b z os) wher
     pub windowing_stop : (PermittedSet n t (without b z) → ⊥) → WindowsOf p n t (record { present = b; count = z; openings = os })
     windowing_stop k = windows (λ y. no_later low P z y k)
 
-    pub windowing_end : 6 ≤ z → WindowsOf p n t (record { present = b; count = z; openings = os })
-    windowing_end h = windows (λ y l. none_past low P y (omega arith))
+    pub windowing_end : z ≡ 6 → WindowsOf p n t (record { present = b; count = 6; openings = os })
+    windowing_end h =
+        subst (λ (c : ℕ). WindowsOf p n t (record { present = b; count = c; openings = os })) h (windows (λ y l. none_past low P y (omega arith)))
 
 -- a setting in which an opening is worked by one of them
 pub fits : {p n t : ℕ} (S : Setting) → Modulus p → Parties n t → S.p ≡ p → S.n ≡ n → S.t ≡ t → S.l ≡ 0 → WorkedBy p n t S.opening → Fitting S
@@ -95,23 +84,6 @@ fits S M P ep en et el W =
       opens = rw (ep, en, et) W;
     }
 
--- what the sets give, one after the other: all that were looked at give v
-module _ (p n t : ℕ) (w : Windows) (x : List ℕ) (v : ℕ) where
-  abbrev pub Given : ℕ → Type 0
-  Given z = (i : ℕ) → i < z → window_value p n t w.present x i ≡ v
-
-  pub given_first : v ≡ window_value p n t w.present x 0 → Given 1
-  given_first e i h = let q : i ≡ 0 = omega arith in rw q (sym e)
-
-  pub given_more : {r : ℕ} (z : ℕ) → Given z → r ≡ window_value p n t w.present x z → r ≡ v → Given (z + 1)
-  given_more {r} z G e q i h = go (ℕ_discrete i z)
-    where
-      go : Dec (i ≡ z) → window_value p n t w.present x i ≡ v
-      go (yes k) = rw k (sym e ∙ q)
-      go (no k) = G i (omega arith)
-
-  pub given_all : (z : ℕ) → Given z → w.count ≤ z → T true ↔ AllGive p n t w x v
-  given_all z G h = (λ _ i l. G i (omega arith), λ _. tt)
-
-  pub given_other : {r : ℕ} (z : ℕ) → z < w.count → r ≡ window_value p n t w.present x z → r ≢ v → T false ↔ AllGive p n t w x v
-  given_other z h e q = (λ t. absurd t, λ k. q (e ∙ k z h))
+-- the sets before z give v
+abbrev pub Given : ℕ → ℕ → ℕ → Windows → List ℕ → ℕ → ℕ → Type 0
+Given p n t w x v z = (i : ℕ) → i < z → window_value p n t w.present x i ≡ v

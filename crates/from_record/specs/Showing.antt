@@ -19,10 +19,4 @@ pub record Gathered (p n j : ℕ) (xs : List ℕ) (x : Shown) : Type 0 where
 
 -- one number more was looked at, whatever the others are
 abbrev pub Further : ℕ → ℕ → ℕ → Shown → Shown → Type 0
-Further p j number x y = (y.fits ≡ x.fits) × ((n : ℕ) (xs : List ℕ) → j < n → get_or xs j 0 ≡ number → Gathered p n (suc j) xs x → Gathered p n j xs y)
-
--- all n numbers
-pub record ShownIn (p n : ℕ) (xs : List ℕ) (x : Shown) : Type 0 where
-  pub gathered : x.fits ≡ true → Gathered p n 0 xs x
-  pub above : x.fits ≡ false → ((i : ℕ) → i < n → get_or xs i 0 ≤ p) → ⊥
-  pub parties_only : x.present < 2 ^ n
+Further p j number x y = (n : ℕ) (xs : List ℕ) → j < n → get_or xs j 0 ≡ number → Gathered p n (suc j) xs x → Gathered p n j xs y

@@ -4,17 +4,19 @@
 pub mod shown;
 pub mod windows;
 
-ghost use Rattle.std.specs.Prelude.{◌≡◌, ◌+◌, ◌-◌, ◌^◌, ◌≤◌, ◌<◌, length, get_or, drop};
+ghost use Rattle.std.specs.Prelude.{◌≡◌, ◌+◌, ◌-◌, ◌^◌, ◌≤◌, ◌<◌, length, get_or, drop, IfOk};
 ghost use Rattle.algebra.specs.Lists as Lists;
 ghost use Rattle.model.specs.Fields as Fields;
 ghost use Rattle.model.specs.Refusing.{first_failed};
 ghost use Rattle.model.specs.Replay as Replay;
+ghost use Rattle.refusals.specs.Numbers.{told};
 ghost use Rattle.from_record.specs.Windowed.{WindowsOf};
 ghost use Rattle.from_record.specs.Reading.{Reading, Finding, FoundIn, own_tests};
 
 use crate::shown::Shown;
 use crate::windows::Windows;
 use field::table;
+use refusals::Refusal;
 use secret::Row;
 
 // What a party reads a record with: its table's field, parties and threshold, its own number, and how openings are worked by those who are present at the
@@ -27,13 +29,6 @@ pub struct Reader {
     pub t: usize,
     pub party: usize,
     pub windows: Windows,
-}
-
-// The number of an opening, 0 or 41 to 43, and its value, 0 where 42 or 43 refuses.
-#[derive(Clone, Copy)]
-pub struct Opened {
-    pub number: u32,
-    pub value: u32,
 }
 
 pub fn reader_for(field: usize, n: usize, t: usize, party: usize, log: &[u32]) -> Reader
@@ -52,16 +47,18 @@ pub fn reader_for(field: usize, n: usize, t: usize, party: usize, log: &[u32]) -
     }
 }
 
-// Who is present at the first opening of a record. A record without one is refused wherever it is read, so that everyone will do.
+// Who is present at the first opening of a record. A record without one, or with a number above p in it, is refused wherever it is read, so that
+// everyone will do.
 fn first_present(p: u32, n: usize, log: &[u32]) -> u32
     requires { (0 < p) × (n ≤ 7) }
     ensures { result < 2 ^ n }
 {
-    if log.len() < n {
-        return words::wide(presence::everyone(n));
+    if n <= log.len()
+        && let Ok(shown) = shown::shown_in(p, n, log, 0)
+    {
+        return shown.present;
     }
-    let shown = shown::shown_in(p, n, log, 0);
-    shown.present
+    u32::from(presence::everyone(n))
 }
 
 // The reader's windows, or those of another set.
@@ -78,73 +75,50 @@ fn windows_for(reader: Reader, present: u32) -> Windows
 }
 
 // "fewer than t + 1 shares are present, or those present are not on one polynomial of degree at most t": 42, or the value.
-fn value_of(reader: Reader, shown: Shown) -> Opened
+fn value_of(reader: Reader, shown: Shown) -> Result<u32, Refusal>
     requires { Reading reader × (shown.present < 2 ^ reader.n) × Lists.Below reader.p shown.shares }
     ensures { Finding reader.p reader.n reader.t shown result }
 {
     let windows = windows_for(reader, shown.present);
-    if 0 < windows.count {
-        let shares = shown.shares;
-        let found = windows::value_of_all(reader.p, reader.n, reader.t, windows, Row { shares });
-        if found.same {
-            return Opened {
-                number: 0,
-                value: found.value,
-            };
-        }
-    }
-    Opened {
-        number: 42,
-        value: 0,
-    }
+    let shares = shown.shares;
+    windows::value_of_all(reader.p, reader.n, reader.t, windows, Row { shares }).ok_or(
+        Refusal::BadOpening,
+    )
 }
 
 // Before these "a number is above p": 42 too.
-fn value_in(reader: Reader, log: &[u32], at: usize) -> Opened
+fn value_in(reader: Reader, log: &[u32], at: usize) -> Result<u32, Refusal>
     requires { Reading reader × (at + reader.n ≤ length log.now) }
     ensures { FoundIn reader.p reader.n reader.t (drop at log.now) result }
 {
-    let shown = shown::shown_in(reader.p, reader.n, log, at);
-    if shown.fits {
-        value_of(reader, shown)
-    } else {
-        Opened {
-            number: 42,
-            value: 0,
-        }
-    }
+    let shown = shown::shown_in(reader.p, reader.n, log, at)?;
+    value_of(reader, shown)
 }
 
 // "then 41 the own share differs"; "an absent own share is not compared".
-fn own_number(reader: Reader, log: &[u32], at: usize, own: u32) -> u32
+#[tactic(auto, unfolding(model::specs::Refusing::first_failed))]
+fn compare_own(reader: Reader, log: &[u32], at: usize, own: u32) -> Result<(), Refusal>
     requires { Reading reader × (at + reader.n ≤ length log.now) }
-    ensures { result ≡ first_failed (own_tests reader.p own (get_or log.now (at + (reader.party - 1)) 0)) }
+    ensures { told result ≡ first_failed (own_tests reader.p own (get_or log.now (at + (reader.party - 1)) 0)) }
 {
     let share = log[at + (reader.party - 1)];
-    if share == reader.p {
-        return 0;
+    if share != reader.p && share != own {
+        return Err(Refusal::OwnShareDiffers);
     }
-    if share == own { 0 } else { 41 }
+    Ok(())
 }
 
-// The opening from a place of the record on.
-pub fn open_next(reader: Reader, log: &[u32], at: usize, own: u32) -> Opened
+// The value of the opening from a place of the record on.
+#[tactic(auto, using(crate::proofs::Values::too_short, crate::proofs::Values::refused_number, crate::proofs::Values::own_compared))]
+pub fn open_next(reader: Reader, log: &[u32], at: usize, own: u32) -> Result<u32, Refusal>
     requires { Reading reader × (at ≤ length log.now) }
-    ensures { (result.number ≡ Replay.opening_number reader.p reader.n reader.t reader.party own (drop at log.now)) × (result.number ≡ 0 → result.value ≡ Replay.opened_value reader.p reader.n reader.t (Replay.opening reader.p reader.n reader.t (drop at log.now))) × (result.value < reader.p) }
+    ensures number { told result ≡ Replay.opening_number reader.p reader.n reader.t reader.party own (drop at log.now) }
+    ensures value { IfOk result (λ v. (v ≡ Replay.opened_value reader.p reader.n reader.t (Replay.opening reader.p reader.n reader.t (drop at log.now))) × (v < reader.p)) }
 {
     if log.len() - at < reader.n {
-        return Opened {
-            number: 43,
-            value: 0,
-        };
+        return Err(Refusal::RecordShort);
     }
-    let found = value_in(reader, log, at);
-    if found.number == 0 {
-        Opened {
-            number: own_number(reader, log, at, own),
-            value: found.value,
-        }
-    } else {
-        found
-    }
+    let value = value_in(reader, log, at)?;
+    compare_own(reader, log, at, own)?;
+    Ok(value)
 }

@@ -1,63 +1,46 @@
 // The numbers of an opening, as a row and as the byte of those present.
-ghost use Rattle.std.specs.Prelude.{◌≡◌, ◌+◌, ◌*◌, ◌≤◌, ◌<◌, length, set, drop};
-ghost use Rattle.from_record.specs.Showing.{Further, ShownIn};
+ghost use Rattle.std.specs.Prelude.{◌≡◌, ℕ, ◌+◌, ◌≤◌, ◌<◌, length, get_or, drop, IfOk, IfErr};
+ghost use Rattle.refusals.specs.declared.Refusal.TheVariants.{BadOpening};
+ghost use Rattle.from_record.specs.Showing.{Further, Gathered};
 
-// The row has 0 for an absent share. Where a number is above p, the rest is not looked at.
+use refusals::Refusal;
+
+// The row has 0 for an absent share.
 #[derive(Clone, Copy)]
 pub struct Shown {
     pub shares: [u32; 7],
     pub present: u32,
-    pub fits: bool,
-}
-
-fn with_share(mut shown: Shown, j: usize, share: u32) -> Shown
-    requires { (j < 7) × (shown.present < 64) }
-    ensures { result ≡ record { shares = set shown.shares j share; present = 2 * shown.present + 1; fits = shown.fits } }
-{
-    shown.shares[j] = share;
-    shown.present = 2 * shown.present + 1;
-    shown
-}
-
-fn with_none(mut shown: Shown) -> Shown
-    requires { shown.present < 64 }
-    ensures { result ≡ record { shares = shown.shares; present = 2 * shown.present; fits = shown.fits } }
-{
-    shown.present = 2 * shown.present;
-    shown
 }
 
 // The number of column j is looked at, those of the columns after it being known: it is a share, or p.
-fn look_at(shown: Shown, p: u32, j: usize, number: u32) -> Shown
+fn look_at(mut shown: Shown, p: u32, j: usize, number: u32) -> Shown
     requires { (j < 7) × (shown.present < 64) × (number ≤ p) }
     ensures { Further p j number shown result }
 {
+    shown.present = 2 * shown.present;
     if number < p {
-        with_share(shown, j, number)
-    } else {
-        with_none(shown)
+        shown.shares[j] = number;
+        shown.present += 1;
     }
+    shown
 }
 
-// The n numbers of the record from a place on.
-pub fn shown_in(p: u32, n: usize, log: &[u32], at: usize) -> Shown
+// The n numbers of the record from a place on, none of which may be above p.
+pub fn shown_in(p: u32, n: usize, log: &[u32], at: usize) -> Result<Shown, Refusal>
     requires { (0 < p) × (n ≤ 7) × (at + n ≤ length log.now) }
-    ensures { ShownIn p n (drop at log.now) result }
+    ensures ok { IfOk result (Gathered p n 0 (drop at log.now)) }
+    ensures err { IfErr result (λ e. (e ≡ BadOpening) × (((i : ℕ) → i < n → get_or (drop at log.now) i 0 ≤ p) → ⊥)) }
 {
     let mut shown = Shown {
         shares: [0u32; 7],
         present: 0,
-        fits: true,
     };
-    let mut j = n;
-    while j > 0 {
-        j -= 1;
+    for j in (0..n).rev() {
         let number = log[at + j];
         if p < number {
-            shown.fits = false;
-            return shown;
+            return Err(Refusal::BadOpening);
         }
         shown = look_at(shown, p, j, number);
     }
-    shown
+    Ok(shown)
 }

@@ -1,5 +1,5 @@
 // Whether the shares of those present are on one polynomial: every t + 1 of them that are neighbours in the order of parties give the same value.
-ghost use Rattle.std.specs.Prelude.{◌≡◌, ◌↔◌, ◌+◌, ◌^◌, ◌<◌, T};
+ghost use Rattle.std.specs.Prelude.{◌≡◌, ℕ, ◌+◌, ◌^◌, ◌<◌, MatchOption};
 ghost use Rattle.algebra.specs.Lists as Lists;
 ghost use Rattle.model.specs.Fields as Fields;
 ghost use Rattle.from_record.specs.Windowed.{without, WindowsOf, window_value, AllGive};
@@ -18,15 +18,12 @@ pub struct Windows {
     pub openings: [Opening; 6],
 }
 
-const POWERS: [u32; 6] = [1, 2, 4, 8, 16, 32];
-
 // The byte without parties 1 to z.
 fn without_first(present: u32, z: usize) -> u32
     requires { z < 6 }
     ensures { result ≡ without present z }
 {
-    let power = POWERS[z];
-    present / power * power
+    (present >> z) << z
 }
 
 // The weights are worked out here, and nowhere else: once for a record, and again for each opening at which others are present.
@@ -34,25 +31,21 @@ pub fn windows_of(field: usize, n: usize, t: usize, present: u32) -> Windows
     requires { Fields.InUse field × Fields.Parties n t × (present < 2 ^ n) }
     ensures { (result.present ≡ present) × WindowsOf (Fields.modulus field) n t result }
 {
-    let none = presence::no_opening();
-    let mut openings = [none; 6];
-    let mut z = 0;
-    while z < 6 {
+    let mut openings = [presence::no_opening(); 6];
+    for z in 0..6 {
         let set = without_first(present, z);
-        if presence::permitted(n, t, set) {
-            openings[z] = presence::opening_of(field, n, t, set);
-            z += 1;
-        } else {
+        if !presence::permitted(n, t, set) {
             return Windows {
                 present,
                 count: z,
                 openings,
             };
         }
+        openings[z] = presence::opening_of(field, n, t, set);
     }
     Windows {
         present,
-        count: z,
+        count: 6,
         openings,
     }
 }
@@ -73,24 +66,19 @@ fn value_at(p: u32, n: usize, t: usize, windows: Windows, z: usize, row: Row) ->
     opening::opened_value(setting, row)
 }
 
-// The value of the first one, and whether all give it.
-#[derive(Clone, Copy)]
-pub struct Agreed {
-    pub value: u32,
-    pub same: bool,
-}
-
-pub fn value_of_all(p: u32, n: usize, t: usize, windows: Windows, row: Row) -> Agreed
-    requires { Fields.Modulus p × Fields.Parties n t × WindowsOf p n t windows × (0 < windows.count) × Lists.Below p row.shares }
-    ensures { (result.value ≡ window_value p n t windows.present row.shares 0) × (result.value < p) × (T result.same ↔ AllGive p n t windows row.shares result.value) }
+// The value that all of them give, if there is one.
+pub fn value_of_all(p: u32, n: usize, t: usize, windows: Windows, row: Row) -> Option<u32>
+    requires { Fields.Modulus p × Fields.Parties n t × WindowsOf p n t windows × Lists.Below p row.shares }
+    ensures { MatchOption result ((v : ℕ) → 0 < windows.count → AllGive p n t windows row.shares v → ⊥) (λ v. (0 < windows.count) × AllGive p n t windows row.shares v × (v < p)) }
 {
-    let value = value_at(p, n, t, windows, 0, row);
-    let mut z = 1;
-    while z < windows.count {
-        if value_at(p, n, t, windows, z, row) != value {
-            return Agreed { value, same: false };
-        }
-        z += 1;
+    if windows.count == 0 {
+        return None;
     }
-    Agreed { value, same: true }
+    let value = value_at(p, n, t, windows, 0, row);
+    for z in 1..windows.count {
+        if value_at(p, n, t, windows, z, row) != value {
+            return None;
+        }
+    }
+    Some(value)
 }

@@ -1,5 +1,6 @@
 -- The loop over a script's lines: at each place the lines that are left stand from there on, and the run goes on from there.
 -- Assumes nothing.
+use Rattle.std.specs.Prelude.{Option, Some, None, Result, Ok, Err}
 use mathlib.Core.Path.{◌≡◌, refl, sym, ap, subst, ◌∙◌}
 use mathlib.Core.Logic.{◌≢◌}
 use mathlib.Core.List.{List, ◌∷◌}
@@ -7,6 +8,10 @@ use Prim.Native.Nat.{ℕ, ◌-◌, ◌≤◌, ◌<◌}
 use native.Mathlib.Omega.{arith}
 use lib.Dec.{T}
 use lib.ListN.{length, replicate}
+use Rattle.refusals.specs.declared.Refusal.{Refusal}
+use Rattle.refusals.specs.declared.Refused.{Refused}
+use Rattle.refusals.specs.Numbers.{number_of, told}
+use Rattle.refusals.proofs.Numbers.{numbered}
 use Rattle.model.specs.Costs.{cost}
 use Rattle.model.specs.Checks as Checks
 use Rattle.model.specs.Script.{Line, accepted, reading_at, script_of, in_ranges}
@@ -16,10 +21,8 @@ use Rattle.model.specs.Exactness.{Accepted}
 use Rattle.model.proofs.WholeScript.{from}
 use Rattle.sheet.specs.declared.frame.Frame.{Frame}
 use Rattle.sheet.specs.Framed.{setting_in}
-use Rattle.script.specs.declared.command.Command.{Command}
-use Rattle.script.specs.declared.command.Decoded.{Decoded}
-use Rattle.script.specs.declared.command.Decoded.TheVariants.{Command as Found, Ends}
-use Rattle.script.specs.Meaning.{meant, standing, standing_of, end_number}
+use Rattle.script.specs.declared.command.Line as Code
+use Rattle.script.specs.Meaning.{meant, standing, standing_of}
 use Rattle.script.proofs.Lines.{ends_here, in_range_lem, line_first, others_left}
 use Rattle.script.proofs.Lines as Lines
 use Rattle.costs.specs.declared.counts.Counts.{Counts}
@@ -96,14 +99,14 @@ module _ {s : List ℕ} {f : Frame} {script log₀ shown₀ : List ℕ} {supply 
   abbrev Before : List Line → Type 0
   Before = GoingOn C t log shown
 
-  -- the run stops here, with this number
-  abbrev StopsHere : ℕ → Type 0
-  StopsHere number =
-      Reaches (setting_in f) log₀ shown₀ (stop_of f.opening.present s (length log₀) (length shown₀)) (record { number = number; place = at; table = t }) log shown
+  -- the run ends here like this
+  abbrev EndsHere : Result (Unit {0}) Refusal → Type 0
+  EndsHere ended =
+      Reaches (setting_in f) log₀ shown₀ (stop_of f.opening.present s (length log₀) (length shown₀)) (record { ended = ended; place = at; table = t }) log shown
 
-  stops_here : {ys : List Line} {number : ℕ} (G : Before ys)
-      → record { number = number; place = at; state = G.state } ≡ whole_run C → StopsHere number
-  stops_here G q =
+  ends_there : {ys : List Line} (ended : Result (Unit {0}) Refusal) (G : Before ys)
+      → record { number = told ended; place = at; state = G.state } ≡ whole_run C → EndsHere ended
+  ends_there ended G q =
       let w = q ∙ stop_is L.running.framed A (length log₀) (length shown₀) in
       record {
         number = ap (λ (x : Run.Stop). x.number) w;
@@ -112,26 +115,26 @@ module _ {s : List ℕ} {f : Frame} {script log₀ shown₀ : List ℕ} {supply 
         carries = subst (λ (x : Run.Stop). Carries (setting_in f) log₀ shown₀ (lent t.cells log shown) x.state) w G.carries;
       }
 
-  module _ {d : Decoded} (e : standing_of d ≡ standing (reading_at f.p f.largest script at) (length script) at) where
+  module _ {d : Result (Option Code.Line) Refused} (e : standing_of at d ≡ standing (reading_at f.p f.largest script at) (length script) at) where
     -- where no command stands
-    pub ended : {number place n : ℕ} → d ≡ Ends number place → n ≡ end_number d → StopsHere n
-    ended q en =
-        let z = ends_here f.p f.largest script at L.left e q en in
+    pub ended : ((line : Code.Line) → d ≡ Ok (Some line) → ⊥) → EndsHere (Ok tt)
+    ended never =
+        let z = ends_here f.p f.largest script at L.left e never in
         let G = subst Before z.0 L.going in
-        rw z.2 (stops_here G (ap (λ (k : ℕ). record { number = 0; place = k; state = G.state }) (sym z.1) ∙ at_end G))
+        ends_there (Ok tt) G (ap (λ (k : ℕ). record { number = 0; place = k; state = G.state }) (sym z.1) ∙ at_end G)
 
     -- a command
-    module _ {c : Command} {next : ℕ} (q : d ≡ Found c next) where
-      pub closer : length script - next < length script - at
+    module _ {line : Code.Line} (q : d ≡ Ok (Some line)) where
+      pub closer : length script - line.next < length script - at
       closer = Lines.closer f.p f.largest script at e q
 
       abbrev others : List Line
       others = Lines.others f.p f.largest script at L.left e q
 
-      before : Before (record { place = at; command = meant c } ∷ others)
+      before : Before (record { place = at; command = meant line.command } ∷ others)
       before = subst Before (line_first f.p f.largest script at L.left e q) L.going
 
-      trying : Trying s f supply t.spent (meant c) (lent t.cells log shown)
+      trying : Trying s f supply t.spent (meant line.command) (lent t.cells log shown)
       trying =
           record {
             framed = L.running.framed;
@@ -148,40 +151,39 @@ module _ {s : List ℕ} {f : Frame} {script log₀ shown₀ : List ℕ} {supply 
                 };
           }
 
-      pub costed : (f.l ≤ 31) × (f.largest ≤ 30) × T (in_ranges f.p f.largest (meant c))
+      pub costed : (f.l ≤ 31) × (f.largest ≤ 30) × T (in_ranges f.p f.largest (meant line.command))
       costed = costable trying.tried
 
-      module _ {need : Cost} (N : Costs need (cost (setting_in f) (meant c))) where
+      module _ {need : Cost} (N : Costs need (cost (setting_in f) (meant line.command))) where
         pub checked : Checkable t.spent supply need
         checked = checkable trying.tried N
 
-        module _ {number : ℕ} (E : Numbers supply need t.spent number) where
-          same_number : number ≡ Checks.check (supply_in f (length log₀) (length shown₀)) (cost (setting_in f) (meant c)) (spent_of t.spent)
-          same_number = rw (← L.same_log, ← L.same_shown) (number_is trying.tried N E)
+        same_number : {number : ℕ} → Numbers supply need t.spent number → number ≡ Checks.check (supply_in f (length log₀) (length shown₀)) (cost (setting_in f) (meant line.command)) (spent_of t.spent)
+        same_number E = rw (← L.same_log, ← L.same_shown) (number_is trying.tried N E)
 
-          pub refused_here : number ≢ 0 → StopsHere number
-          refused_here z = stops_here before (at_refusal before same_number z)
+        pub refused_here : (r : Refusal) → Numbers supply need t.spent (number_of r) → EndsHere (Err r)
+        refused_here r E = ends_there (Err r) before (at_refusal before (same_number E) (λ z. omega (arith, numbered r, z)))
 
-          module _ (z : number ≡ 0) where
-            pub ready_here : Ready s f (counts_of t.spent.counts) (meant c) (lent t.cells log shown)
-            ready_here = ready trying N E z
+        module _ (E : Numbers supply need t.spent 0) where
+          pub ready_here : Ready s f (counts_of t.spent.counts) (meant line.command) (lent t.cells log shown)
+          ready_here = ready trying N E refl
 
-            pub payable_here : Payable f (meant c) need t
-            payable_here = record { costs = N; summing = summing trying.tried N E z }
+          pub payable_here : Payable f (meant line.command) need t
+          payable_here = record { costs = N; summing = summing trying.tried N E refl }
 
-            pub goes_next : {t' : Table} {log' shown' : List ℕ} → Finishes s f (meant c) t log shown t' log' shown' → length log' ≡ length log
-                → length shown' ≡ length shown → Looping s f script log₀ shown₀ supply t' log' shown' next
-            goes_next K el eh =
-                let k = subst (λ (k : Checks.Spent). Counting s f k.counts before.state) (sym before.spends)
-                (counting L.running.framed A (length log₀) (length shown₀) before.passes) in
-                record {
-                  running = L.running;
-                  lines = others;
-                  left = others_left f.p f.largest script at L.left e q;
-                  going = rw K.paid (Go.goes_on before same_number z (K.performs log₀ shown₀ before.state k before.carries));
-                  supplied = L.supplied;
-                  words = L.words;
-                  within = paid_within trying.tried N E z K.paid;
-                  same_log = el ∙ L.same_log;
-                  same_shown = eh ∙ L.same_shown;
-                }
+          pub goes_next : {t' : Table} {log' shown' : List ℕ} → Finishes s f (meant line.command) t log shown t' log' shown' → length log' ≡ length log
+              → length shown' ≡ length shown → Looping s f script log₀ shown₀ supply t' log' shown' line.next
+          goes_next K el eh =
+              let k = subst (λ (k : Checks.Spent). Counting s f k.counts before.state) (sym before.spends)
+              (counting L.running.framed A (length log₀) (length shown₀) before.passes) in
+              record {
+                running = L.running;
+                lines = others;
+                left = others_left f.p f.largest script at L.left e q;
+                going = rw K.paid (Go.goes_on before (same_number E) refl (K.performs log₀ shown₀ before.state k before.carries));
+                supplied = L.supplied;
+                words = L.words;
+                within = paid_within trying.tried N E refl K.paid;
+                same_log = el ∙ L.same_log;
+                same_shown = eh ∙ L.same_shown;
+              }

@@ -1,5 +1,6 @@
 -- The run of a sheet by its frame: the paper's run of the accepted sheet, what is known of the states that it passes through, and the answer.
 -- Assumes nothing.
+use Rattle.std.specs.Prelude.{Result, Ok, Err}
 use mathlib.Core.Path.{◌≡◌, refl, sym, ap, subst, ◌∙◌}
 use mathlib.Core.Logic.{◌≢◌}
 use mathlib.Core.Bool.{Bool, true, false}
@@ -9,6 +10,10 @@ use native.Mathlib.Omega.{arith}
 use lib.ListN.{length, get_or, drop, replicate}
 use Rattle.algebra.specs.Lists.{Below, onto}
 use Rattle.algebra.proofs.Lists.{below_nil, below_cons}
+use Rattle.refusals.specs.declared.Refusal.{Refusal}
+use Rattle.refusals.specs.declared.Refused.{Refused}
+use Rattle.refusals.specs.Numbers.{number_of, told}
+use Rattle.refusals.proofs.Numbers.{numbered}
 use Rattle.model.specs.Bytes.{sevens}
 use Rattle.model.specs.Deal.{Setting, Row, Deal, no_row}
 use Rattle.model.specs.Steps.{written}
@@ -23,10 +28,8 @@ use Rattle.model.proofs.Shamir.{every_sharing}
 use Rattle.model.proofs.Exactness.{exactness}
 use Rattle.model.proofs.Refusals.{numbers}
 use Rattle.sheet.specs.declared.frame.Frame.{Frame}
-use Rattle.sheet.specs.declared.header.Read.{Read}
-use Rattle.sheet.specs.declared.header.Read.TheVariants.{Sheet, Refused}
 use Rattle.sheet.specs.Framed.{setting_in, Framed, RunFramed}
-use Rattle.sheet.specs.Reading.{number_of, Reads}
+use Rattle.sheet.specs.Reading.{Reads}
 use Rattle.sheet.proofs.Headers as Headers
 use Rattle.sheet.proofs.Scripts.{script_part, script_bytes, script_read}
 use Rattle.script.specs.Meaning.{script_number, script_place}
@@ -126,27 +129,20 @@ module _ (present : ℕ) (s : List ℕ) {number place : ℕ} {a : Answer} (N : R
       })
 
 -- by what reading the sheet answers
-module _ (present : ℕ) (s : List ℕ) (d : Read) (r : Reads (sheet_tests present s) (RunFramed present s) d) where
-  pub sheet_refused : {k number : ℕ} {a : Answer} {log shown : List ℕ} → d ≡ Refused k → number ≡ number_of d → RefusedWith number 0 a
-      → Answers present s log shown a log shown
+module _ (present : ℕ) (s : List ℕ) where
+  pub sheet_refused : {a : Answer} {log shown : List ℕ} (r : Refusal) → Reads (sheet_tests present s) (RunFramed present s) (Err r)
+      → RefusedWith (number_of r) 0 a → Answers present s log shown a log shown
   unfolding stop_of
-  sheet_refused {k} {number} q e N =
-      let h : (k ≡ sheet_number present s) × (0 < k) = subst (Reads (sheet_tests present s) (RunFramed present s)) q r in
-      let n : number ≡ sheet_number present s = e ∙ ap number_of q ∙ h.0 in
-      refused_answer present s N (given_refused (sheet_number present s) _ _ (λ z. omega (arith, h.0, h.1, z)) ∙ ap (λ (v : ℕ). refused_input v 0) (sym n))
+  sheet_refused r h N =
+      refused_answer present s N (given_refused (sheet_number present s) _ _ (λ z. omega (arith, h.0, numbered r, z)) ∙ ap (λ (v : ℕ). refused_input v 0) (sym h.0))
 
-  pub unrefused : {f : Frame} → d ≡ Sheet f → Unrefused s f
-  unrefused q =
-      let h = subst (Reads (sheet_tests present s) (RunFramed present s)) q r in
-      record { framed = h.1.0; number = rw h.1.1 (sym h.0) }
+  module _ {f : Frame} (h : Reads (sheet_tests present s) (RunFramed present s) (Ok f)) where
+    pub unrefused : Unrefused s f
+    unrefused = record { framed = h.1.0; number = rw h.1.1 (sym h.0) }
 
-  -- the run with the byte of the frame is the run with this byte
-  pub with_byte : {f : Frame} {o : Outcome} (log₀ shown₀ : List ℕ) → d ≡ Sheet f → o ≡ run f.opening.present s log₀ shown₀ → o ≡ run present s log₀ shown₀
-  with_byte log₀ shown₀ q e = e ∙ ap (λ (b : ℕ). run b s log₀ shown₀) (subst (Reads (sheet_tests present s) (RunFramed present s)) q r).1.1
-
--- the same byte, as a number
-pub same_byte : {b b' : ℕ} {o : Outcome} (s log₀ shown₀ : List ℕ) → b ≡ b' → o ≡ run b s log₀ shown₀ → o ≡ run b' s log₀ shown₀
-same_byte s log₀ shown₀ q e = e ∙ ap (λ (b : ℕ). run b s log₀ shown₀) q
+    -- the run with the byte of the frame is the run with this byte
+    pub with_byte : {o : Outcome} (log₀ shown₀ : List ℕ) → o ≡ run f.opening.present s log₀ shown₀ → o ≡ run present s log₀ shown₀
+    with_byte log₀ shown₀ e = e ∙ ap (λ (b : ℕ). run b s log₀ shown₀) h.1.1
 
 -- a sheet is accepted where neither the sheet nor the script has a number
 accepted_sheet : (present : ℕ) (s : List ℕ) → sheet_number present s ≡ 0 → (x : Script) → sheet_script s ≡ x → script_number x ≡ 0 → Accepted present s

@@ -1,6 +1,7 @@
 -- A finished command, how a run stopped, and what the answer says.
 -- Assumes nothing.
 use Rattle.std.specs.Prelude.{◌≡◌, List, ℕ, replicate}
+use Rattle.refusals.specs.Numbers.{told}
 use Rattle.model.specs.Bytes.{sevens}
 use Rattle.model.specs.Deal.{Setting}
 use Rattle.model.specs.Script.{Command}
@@ -40,14 +41,14 @@ pub record Running (s : List ℕ) (f : Frame) (script : List ℕ) : Type 0 where
 
 -- a run stopped as the paper's: number, place and what was spent, and what is lent carries its state
 pub record Reaches (S : Setting) (log₀ shown₀ : List ℕ) (x : Paper.Stop) (a : Answer) (log shown : List ℕ) : Type 0 where
-  pub number : a.number ≡ x.number
+  pub number : told a.ended ≡ x.number
   pub place : a.place ≡ x.place
   pub spent : spent_of a.table.spent ≡ x.state.spent
   pub carries : Carries S log₀ shown₀ (lent a.table.cells log shown) x.state
 
 -- "Nothing is run": the answer has this number and place, "all registers are unset, all counts 0"
 pub record RefusedWith (number place : ℕ) (a : Answer) : Type 0 where
-  pub number_is : a.number ≡ number
+  pub number_is : told a.ended ≡ number
   pub place_is : a.place ≡ place
   pub cells : a.table.cells ≡ replicate 448 0
   pub spent : spent_of a.table.spent ≡ Paper.nothing_spent
@@ -56,7 +57,7 @@ pub record RefusedWith (number place : ℕ) (a : Answer) : Type 0 where
 abbrev pub outcome_of : Answer → List ℕ → List ℕ → Paper.Outcome
 outcome_of a log revealed =
     record {
-      number = a.number;
+      number = told a.ended;
       place = a.place;
       counts = counts_of a.table.spent.counts;
       registers = sevens 64 a.table.cells;

@@ -1,23 +1,22 @@
 // The run of a sheet.
 // What `run` rests on and answers with a table is not inlined, so that the frame of its caller does not hold its tables too.
 ghost use Rattle.std.specs.Prelude.{◌≡◌, length};
+ghost use Rattle.refusals.specs.Numbers.{number_of};
 ghost use Rattle.model.specs.Run as Run;
 ghost use Rattle.sheet.specs.Framed.{setting_in};
-ghost use Rattle.sheet.specs.Reading.{number_of};
 ghost use Rattle.machine.specs.Answers.{Unrefused, Running, Reaches, RefusedWith, outcome_of};
 
 use crate::step;
 use costs::{check, cost, spent};
+use refusals::Refusal;
 use registers::table::Table;
-use script::command::Decoded;
 use script::decode;
 use sheet::frame::Frame;
-use sheet::header::Read;
 
-// The paper's number and place, and the table that the run leaves.
+// How the run ended and at which place, and the table that it leaves.
 #[derive(Clone, Copy)]
 pub struct Answer {
-    pub number: u32,
+    pub ended: Result<(), Refusal>,
     pub place: usize,
     pub table: Table,
 }
@@ -31,50 +30,35 @@ fn run_script(f: Frame, s: &[u8], script: &[u8], log: &mut [u32], revealed: &mut
 {
     let supply = spent::supply(f, log.len(), revealed.len());
     let mut table = Table::new();
-    let mut at = 0;
-    loop {
-        let found = decode::decode(f.p, f.largest, script, at);
-        let Decoded::Command(c, next) = found else {
+    let mut place = 0;
+    while let Ok(Some(line)) = decode::decode(f.p, f.largest, script, place) {
+        let need = cost::cost_of(f, line.command);
+        if let Err(refusal) = check::check(table.spent, supply, need) {
             return Answer {
-                number: decode::end_of(found).number,
-                place: at,
-                table,
-            };
-        };
-        let need = cost::cost_of(f, c);
-        let done = table.spent;
-        let number = check::check(done, supply, need);
-        if number != 0 {
-            return Answer {
-                number,
-                place: at,
+                ended: Err(refusal),
+                place,
                 table,
             };
         }
-        table = step::step(table, f, s, log, revealed, c, need);
-        at = next;
+        table = step::step(table, f, s, log, revealed, line.command, need);
+        place = line.next;
+    }
+    Answer {
+        ended: Ok(()),
+        place,
+        table,
     }
 }
 
 // "Nothing is run": all registers unset, all counts 0.
 #[inline(never)]
-fn refused(number: u32, place: usize) -> Answer
-    ensures { RefusedWith number place result }
+fn refused(refusal: Refusal, place: usize) -> Answer
+    ensures { RefusedWith (number_of refusal) place result }
 {
     Answer {
-        number,
+        ended: Err(refusal),
         place,
         table: Table::new(),
-    }
-}
-
-// The number of a refused sheet, for the else of a let-else, which binds nothing.
-fn refusal(read: Read) -> u32
-    ensures { result ≡ number_of read }
-{
-    match read {
-        Read::Sheet(_) => 0,
-        Read::Refused(number) => number,
     }
 }
 
@@ -87,29 +71,20 @@ fn run_sheet(f: Frame, sheet: &[u8], log: &mut [u32], revealed: &mut [u32]) -> A
     let end = f.input;
     let from = end - f.script;
     let script = &sheet[from..end];
-    let found = script::check::check_script(f.p, f.largest, script);
-    if found.number != 0 {
-        return refused(found.number, found.place);
+    match script::check::check_script(f.p, f.largest, script) {
+        Ok(_) => run_script(f, sheet, script, log, revealed),
+        Err(found) => refused(found.refusal, found.place),
     }
-    run_script(f, sheet, script, log, revealed)
-}
-
-// The run of a sheet with a number for the byte that says who is present.
-#[inline(never)]
-fn run_with(sheet: &[u8], present: u32, log: &mut [u32], revealed: &mut [u32]) -> Answer
-    ensures { outcome_of result log.new revealed.new ≡ Run.run present sheet.now log.old revealed.old }
-{
-    let read = sheet::read_sheet(sheet, present);
-    let Read::Sheet(f) = read else {
-        return refused(refusal(read), 0);
-    };
-    run_sheet(f, sheet, log, revealed)
 }
 
 // Runs a sheet, with the byte whose bit j − 1 says that party j is present. Opened shares go to the log, the paper's record, and revealed values to
 // the revealed list, each from its start; past what was written they are unchanged.
+#[inline(never)]
 pub fn run(sheet: &[u8], present: u8, log: &mut [u32], revealed: &mut [u32]) -> Answer
     ensures { outcome_of result log.new revealed.new ≡ Run.run present sheet.now log.old revealed.old }
 {
-    run_with(sheet, words::wide(present), log, revealed)
+    match sheet::read_sheet(sheet, u32::from(present)) {
+        Ok(f) => run_sheet(f, sheet, log, revealed),
+        Err(refusal) => refused(refusal, 0),
+    }
 }

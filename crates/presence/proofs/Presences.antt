@@ -2,16 +2,17 @@
 -- Assumes nothing.
 use mathlib.Core.Path.{◌≡◌, refl, sym, ap, subst, ◌∙◌}
 use mathlib.Core.Bool.{Bool, true, false, cond}
-use mathlib.Core.List.{List, [], ◌∷◌, ◌++◌, map, map-append, append-nil}
+use mathlib.Core.Logic.{◌⊎◌, inl, inr}
+use mathlib.Core.List.{List, [], ◌∷◌, ◌++◌, map, map-append, append-nil, append_assoc}
 use Prim.Native.Nat.{ℕ, zero, suc, ◌+◌, ◌-◌, ◌/◌, ◌%◌, ◌^◌, ◌≤◌, ◌<◌}
-use native.Mathlib.Nat.{min-le_left, pow-suc, div-one, lt-div-mul-add, div-eq_of_lt, div-div-eq-div-mul, mul_comm}
+use native.Mathlib.Nat.{pow-suc, div-one, lt-div-mul-add, div-eq_of_lt, div-div-eq-div-mul, mul_comm}
 use native.Mathlib.Numerals.{add-one}
 use native.Mathlib.Omega.{arith}
 use borrow.Author.Tests.{lt-ltb, leb-true, leb-false, eqb-true, eq-eqb, ne_eqb}
 use lib.Dec.{ltb, leb, eqb, ltb→lt}
-use lib.ListN.{length, get_or, set, take, drop, length-append, length-set, length-take, drop_of_length-le}
+use lib.ListN.{length, get_or, set, take, drop, length-append, length-set, take-append-drop}
 use lib.Pow.{pow_pos}
-use lib.Seq.{length-take-le, take_all, take-nil, take-append-le, take-suc-set, take-suc, drop-cons, get_or-take, get_or-set_other}
+use lib.Seq.{length-take-le, take_all, take-nil, take-append-le, take-suc-set, take-suc, get_or-take, get_or-set_other}
 use Rattle.algebra.specs.Ring.{sub, mul}
 use Rattle.algebra.specs.Lists.{Below, from}
 use Rattle.algebra.proofs.Ring.{ring, mod-ring, reduced}
@@ -22,7 +23,7 @@ use Rattle.model.proofs.Fields.{fields}
 use Rattle.model.proofs.Presence.{presence}
 use Rattle.model.specs.Presence.{bit, is_present, present_in, absent_in, everyone, openers, permitted_set, PermittedSet}
 use Rattle.model.specs.Sharing.{reciprocal, ratio, weight}
-use Rattle.presence.specs.Openings.{LowestOf, Further, FirstWeights, parties_of, weights_of, WorkedBy}
+use Rattle.presence.specs.Openings.{LowestOf, FirstWeights, parties_of, weights_of, WorkedBy}
 use Rattle.presence.specs.declared.Found.{Found}
 use Rattle.presence.specs.declared.Opening.{Opening}
 
@@ -57,8 +58,8 @@ module _ (b j : ℕ) where
   none_more : (b / 2 ^ j % 2 ≡ 1 → ⊥) → present_in b (from 1 (suc j)) ≡ present_in b (from 1 j)
   none_more e = more ∙ ap (λ (l : List ℕ). present_in b (from 1 j) ++ l) {y = []} (unfold present_in in rw (bit_left b j, ne_eqb (b / 2 ^ j % 2) 1 e)) ∙ append-nil (present_in b (from 1 j))
 
-  pub shifted : b / 2 ^ j / 2 ≡ b / 2 ^ suc j
-  shifted = rw (div-div-eq-div-mul, pow-suc 2 j)
+pub shifted : (b j : ℕ) → b / 2 ^ j / 2 ≡ b / 2 ^ suc j
+shifted b j = rw (div-div-eq-div-mul, pow-suc 2 j)
 
 pub below_set : {p : ℕ} (l : List ℕ) (i : ℕ) {v : ℕ} → Below p l → v < p → Below p (set l i v)
 below_set [] i B h = B
@@ -84,17 +85,25 @@ full zero xs h = omega arith
 full (suc e) [] h = absurd (h (omega arith))
 full (suc e) (x ∷ xs) h = let r = full e xs (λ l. h (omega arith)) in omega arith
 
--- what is found of the first j parties, and of one more
-pub lowest_start : (e b : ℕ) → LowestOf 0 e b (record { parties = 1 ∷ 1 ∷ 1 ∷ 1 ∷ []; count = 0; beyond = b })
+-- The first j parties were looked at: what is found of them, and of one party more.
+pub record Looked (j e b : ℕ) (parties : List ℕ) (count : ℕ) : Type 0 where
+  pub size : length parties ≡ 4
+  pub found : LowestOf j e b (record { parties = parties; count = count; beyond = b / 2 ^ j })
+
+pub looked_none : (e b : ℕ) → Looked 0 e b (1 ∷ 1 ∷ 1 ∷ 1 ∷ []) 0
 unfolding from present_in
-lowest_start e b =
+looked_none e b =
     let z : 1 < 8 = omega arith in
     record {
-      parties = sym (take-nil e);
-      count = rw (take-nil {A = ℕ} e);
-      beyond = rw div-one;
-      low = below_cons z (below_cons z (below_cons z (below_cons z (below_nil 8))));
-      some = all_ones;
+      size = refl;
+      found =
+          record {
+            parties = sym (take-nil e);
+            count = rw (take-nil {A = ℕ} e);
+            beyond = refl;
+            low = below_cons z (below_cons z (below_cons z (below_cons z (below_nil 8))));
+            some = all_ones;
+          };
     }
   where
     all_ones : (i : ℕ) → i < 4 → 1 ≤ get_or (1 ∷ 1 ∷ 1 ∷ 1 ∷ []) i 0
@@ -104,35 +113,43 @@ lowest_start e b =
     all_ones (suc (suc (suc zero))) h = omega arith
     all_ones (suc (suc (suc (suc i)))) h = absurd (omega arith)
 
-module _ {j e : ℕ} {x y : Found} where
-  pub takes : j < 7 → e ≤ 4 → length x.parties ≡ 4 → x.beyond % 2 ≡ 1 → x.count < e
-      → y ≡ record { parties = set x.parties x.count (j + 1); count = x.count + 1; beyond = x.beyond / 2 } → Further j e x y
-  takes h k l o c q b R =
-      rw q
-      (let P = present_in b (from 1 j) in
+module _ {j e b : ℕ} {parties : List ℕ} {count : ℕ} (K : Looked j e b parties count) where
+  pub takes : j < 7 → e ≤ 4 → b / 2 ^ j % 2 ≡ 1 → count < e → Looked (j + 1) e b (set parties count (j + 1)) (count + 1)
+  takes h k o c =
+      let R = K.found in
+      let P = present_in b (from 1 j) in
       let m = short e P (rw (← R.count) c) in
       let all : take e P ≡ P = take_all e P (omega arith) in
       let next : take e (present_in b (from 1 (suc j))) ≡ P ++ (suc j ∷ []) =
-      rw (one_more b j (rw (← R.beyond) o)) (take_all e (P ++ (suc j ∷ [])) (rw length-append (omega arith))) in
-      record {
-        parties = rw (add-one, add-one, take-suc-set x.parties x.count (suc j) (omega arith), R.parties, all, next);
-        count = rw (next, length-append, R.count, all);
-        beyond = rw R.beyond (shifted b j);
-        low = below_set x.parties x.count R.low (omega arith);
-        some = some_set 4 x.parties x.count (omega arith) R.some;
+      rw (one_more b j o) (take_all e (P ++ (suc j ∷ [])) (rw length-append (omega arith))) in
+      rw (add-one j)
+      (record {
+        size = rw length-set K.size;
+        found =
+            record {
+              parties = rw (add-one count, take-suc-set parties count (suc j) (omega (arith, K.size)), R.parties, all, next);
+              count = rw (next, length-append, R.count, all);
+              beyond = refl;
+              low = below_set parties count R.low (omega arith);
+              some = some_set 4 parties count (omega arith) R.some;
+            };
       })
 
-  pub enough : e ≤ x.count → y ≡ record { parties = x.parties; count = x.count; beyond = x.beyond / 2 } → Further j e x y
-  enough c q b R =
-      let P = present_in b (from 1 j) in
-      let same : take e (present_in b (from 1 (suc j))) ≡ take e P =
-      rw (more b j) (take-append-le e P (present_in b (suc j ∷ [])) (full e P (λ l. omega (arith, c, R.count)))) in
-      rw q (record { parties = rw same R.parties; count = rw same R.count; beyond = rw R.beyond (shifted b j); low = R.low; some = R.some })
-
-  pub absent : (x.beyond % 2 ≡ 1 → ⊥) → y ≡ record { parties = x.parties; count = x.count; beyond = x.beyond / 2 } → Further j e x y
-  absent o q b R =
-      let same = none_more b j (λ h. o (rw R.beyond h)) in
-      rw q (record { parties = rw same R.parties; count = rw same R.count; beyond = rw R.beyond (shifted b j); low = R.low; some = R.some })
+  -- a party where enough are found, and one that is absent
+  pub left_out : (b / 2 ^ j % 2 ≡ 1) × (e ≤ count) ⊎ (b / 2 ^ j % 2 ≡ 1 → ⊥) → Looked (j + 1) e b parties count
+  left_out h =
+      let R = K.found in
+      rw (add-one j)
+      (record {
+        size = K.size;
+        found = record { parties = rw (same h) R.parties; count = rw (same h) R.count; beyond = refl; low = R.low; some = R.some };
+      })
+    where
+      same : (b / 2 ^ j % 2 ≡ 1) × (e ≤ count) ⊎ (b / 2 ^ j % 2 ≡ 1 → ⊥) → take e (present_in b (from 1 (suc j))) ≡ take e (present_in b (from 1 j))
+      same (inl (o, c)) =
+          let P = present_in b (from 1 j) in
+          rw (more b j) (take-append-le e P (present_in b (suc j ∷ [])) (full e P (λ l. omega (arith, c, K.found.count))))
+      same (inr o) = ap (take e) (none_more b j o)
 
 -- the test of a set
 module _ {n b : ℕ} (t : ℕ) {x : Found} (R : LowestOf n (t + 1) b x) where
@@ -162,17 +179,42 @@ worked_from {n} {b} {t} {x} R Q =
     let many : x.count ≡ suc t = R.count ∙ length-take-le (suc t) P Q.enough in
     rw (take-append-le (suc t) P (absent_in b (from 1 n)) Q.enough) (rw many at R.parties)
 
--- a weight, from the last party to the first
-pub weight_start : (p x e : ℕ) (zs : List ℕ) → 1 ≡ weight p (drop e (take e zs)) x
-unfolding weight
-weight_start p x e zs = rw (drop_of_length-le (take e zs) {i = e} (rw length-take (min-le_left e (length zs))))
+below_parts : {p : ℕ} (xs ys : List ℕ) → Below p (xs ++ ys) → Below p xs × Below p ys
+below_parts {p} [] ys B = (below_nil p, B)
+below_parts (x ∷ xs) ys B = let r = below_parts xs ys (below_tail B) in (below_cons (below_head B) r.0, r.1)
 
-pub weight_more : (p x e : ℕ) (zs : List ℕ) (i : ℕ) {r w z : ℕ} → 0 < i → i ≤ e → e ≤ length zs → r ≡ ratio p x (get_or zs (i - 1) 0) → w ≡ weight p (drop i (take e zs)) x
-    → z ≡ mul p r w → z ≡ weight p (drop (i - 1) (take e zs)) x
-weight_more p x e zs i h l k a b c =
-    let s : suc (i - 1) ≡ i = omega arith in
-    let m : i - 1 < length (take e zs) = rw (length-take-le e zs k) (omega arith) in
-    c ∙ rw (drop-cons (take e zs) (i - 1) 0 m, s, get_or-take e zs (i - 1) 0 (omega arith), a, b) (unfold weight in refl)
+-- x's weight among some parties, from the last of them to the first: those that are left, and the weight among the others
+pub record Weighed (p x : ℕ) (parties left : List ℕ) (w : ℕ) : Type 0 where
+  pub others : List ℕ
+  pub whole : left ++ others ≡ parties
+  pub is : w ≡ weight p others x
+  pub less : w < p
+  pub low : Below 8 left
+
+pub weighed_start : (p x e : ℕ) (zs left : List ℕ) → 1 < p → Below 8 zs → left ≡ take e zs → Weighed p x (take e zs) left 1
+unfolding weight
+weighed_start p x e zs left h B q =
+    let low = (below_parts (take e zs) (drop e zs) (rw (take-append-drop e zs) B)).0 in
+    record { others = []; whole = rw append-nil q; is = refl; less = h; low = rw q low }
+
+-- the next party, and its ratio
+pub weighed_low : {p x : ℕ} {parties left : List ℕ} {w : ℕ} → Weighed p x parties left w → (left' : List ℕ) (z : ℕ) → left ≡ left' ++ (z ∷ []) → z < 8
+weighed_low W left' z q = below_head (below_parts left' (z ∷ []) (rw q at W.low)).1
+
+pub weighed_more : {p x : ℕ} {parties left : List ℕ} {w : ℕ} → Weighed p x parties left w → (left' : List ℕ) (z : ℕ) → left ≡ left' ++ (z ∷ [])
+    → {w' : ℕ} → (w' ≡ mul p (ratio p x z) w) × (w' < p) → Weighed p x parties left' w'
+weighed_more W left' z q e =
+    record {
+      others = z ∷ W.others;
+      whole = sym (append_assoc left' (z ∷ []) W.others) ∙ (rw q at W.whole);
+      is = unfold weight in rw (← W.is) e.0;
+      less = e.1;
+      low = (below_parts left' (z ∷ []) (rw q at W.low)).0;
+    }
+
+pub weighed_end : {p x : ℕ} {parties left : List ℕ} {w : ℕ} → Weighed p x parties left w → length left ≡ 0 → w ≡ weight p parties x
+weighed_end {left = []} W e = rw (← W.whole) W.is
+weighed_end {left = z ∷ zs} W e = absurd (omega arith)
 
 -- weights, from the first to the last: the first i of e stand in the list, and 0 past them
 pub record Weighing (p : ℕ) (parties : List ℕ) (e i : ℕ) (ws : List ℕ) : Type 0 where
@@ -243,14 +285,6 @@ pub ratio_other : (p x z : ℕ) {a b d r : ℕ} → (z ≡ x → ⊥) → a ≡ 
 ratio_other p x z n ea eb ed er = unfold ratio reciprocal in rw (ne_eqb z x n, ← ea, ← eb, ← ed) er
 
 -- the points of what was found
-pub four : (l : List ℕ) → length l ≡ 4 → get_or l 0 0 ∷ get_or l 1 0 ∷ get_or l 2 0 ∷ get_or l 3 0 ∷ [] ≡ l
-four [] e = absurd (omega arith)
-four (a ∷ []) e = absurd (omega arith)
-four (a ∷ b ∷ []) e = absurd (omega arith)
-four (a ∷ b ∷ c ∷ []) e = absurd (omega arith)
-four (a ∷ b ∷ c ∷ d ∷ []) e = refl
-four (a ∷ b ∷ c ∷ d ∷ x ∷ xs) e = absurd (omega arith)
-
 pub opens_by : {p n t b : ℕ} {x : Found} {ws : List ℕ} (o : Opening) → LowestOf n (suc t) b x → PermittedSet n t b → FirstWeights p x.parties (suc t) ws
     → o.present ≡ b → parties_of o ≡ x.parties → weights_of o ≡ ws → WorkedBy p n t o
 opens_by {p} {n} {t} o R Q W eb ep ew =

@@ -15,10 +15,6 @@ pub record LowestOf (n e present : ℕ) (x : Found) : Type 0 where
   pub low : Below 8 x.parties
   pub some : (i : ℕ) → i < 4 → 1 ≤ get_or x.parties i 0
 
--- one party more was looked at, whatever byte the others were found by
-abbrev pub Further : ℕ → ℕ → Found → Found → Type 0
-Further j e x y = (present : ℕ) → LowestOf j e present x → LowestOf (suc j) e present y
-
 -- the weights of some parties, each among all of them
 abbrev pub weights_among : ℕ → List ℕ → List ℕ
 weights_among p xs = map (weight p xs) xs

@@ -1,14 +1,14 @@
 // Who is present: the lowest t + 1 present parties, from whose shares an opening is worked, and their weights.
 #![tactic(auto)]
 
-ghost use Rattle.std.specs.Prelude.{◌≡◌, ◌+◌, ◌-◌, ◌/◌, ◌≤◌, ◌<◌, eqb, set, take, ◌≢◌};
+ghost use Rattle.std.specs.Prelude.{◌≡◌, ℕ, ◌≤◌, ◌<◌, eqb, length, get_or, take, List, ◌≢◌};
 ghost use Rattle.algebra.specs.Lists.{from};
 ghost use Rattle.algebra.specs.Lists as Lists;
 ghost use Rattle.algebra.specs.Ring.{mul};
 ghost use Rattle.model.specs.Fields as Fields;
 ghost use Rattle.model.specs.Presence as Presence;
 ghost use Rattle.model.specs.Sharing as Sharing;
-ghost use Rattle.presence.specs.Openings.{LowestOf, Further, FirstWeights, parties_of, weights_of, WorkedBy};
+ghost use Rattle.presence.specs.Openings.{LowestOf, FirstWeights, parties_of, weights_of, WorkedBy};
 
 use field::{arithmetic, table};
 
@@ -60,10 +60,11 @@ pub fn all_present(n: usize, present: u32) -> bool
     requires { n ≤ 7 }
     ensures { result ≡ eqb present (Presence.everyone n) }
 {
-    present == words::wide(everyone(n))
+    present == u32::from(everyone(n))
 }
 
-// The lowest present parties, how many there are of them, and what is left of the byte past the bits of parties 1 to n.
+// The lowest present parties, how many there are of them, and what is left of the byte past the bits of parties 1 to n. The parties are an array with a
+// count, since nothing here allocates.
 #[derive(Clone, Copy)]
 pub struct Found {
     pub parties: [usize; 4],
@@ -71,59 +72,28 @@ pub struct Found {
     pub beyond: u32,
 }
 
-fn taken(mut found: Found, party: usize) -> Found
-    requires { found.count < 4 }
-    ensures { result ≡ record { parties = set found.parties found.count party; count = found.count + 1; beyond = found.beyond / 2 } }
-{
-    let count = found.count;
-    found.parties[count] = party;
-    found.count = count + 1;
-    found.beyond = found.beyond / 2;
-    found
-}
-
-fn left_out(mut found: Found) -> Found
-    ensures { result ≡ record { parties = found.parties; count = found.count; beyond = found.beyond / 2 } }
-{
-    found.beyond = found.beyond / 2;
-    found
-}
-
-// The party after j parties is looked at: it is taken if it is present and fewer than e are.
-fn look_at(found: Found, e: usize, j: usize) -> Found
-    requires { (e ≤ 4) × (j < 7) }
-    ensures { Further j e found result }
-{
-    if found.beyond % 2 == 1 {
-        if found.count < e {
-            taken(found, j + 1)
-        } else {
-            left_out(found)
-        }
-    } else {
-        left_out(found)
-    }
-}
-
 // At most e of parties 1 to n.
 pub fn lowest(n: usize, e: usize, present: u32) -> Found
     requires { (n ≤ 7) × (e ≤ 4) }
     ensures { LowestOf n e present result }
 {
-    let mut found = Found {
-        parties: [1usize; 4],
-        count: 0,
-        beyond: present,
-    };
-    let mut j = 0;
-    while j < n {
-        found = look_at(found, e, j);
-        j += 1;
+    let mut parties = [1usize; 4];
+    let mut count = 0;
+    for j in 0..n {
+        if (present >> j) % 2 == 1 && count < e {
+            parties[count] = j + 1;
+            count += 1;
+        }
     }
-    found
+    Found {
+        parties,
+        count,
+        beyond: present >> n,
+    }
 }
 
 // Whether no bit beyond n is set and at least t + 1 parties are present. Everyone is the common case, and needs no search.
+#[tactic(auto, using(crate::proofs::Presences::everyone_may, crate::proofs::Presences::permits, crate::proofs::Presences::bits_beyond))]
 pub fn permitted(n: usize, t: usize, present: u32) -> bool
     requires { (n ≤ 7) × (t ≤ 3) × (t < n) }
     ensures { result ≡ Presence.permitted_set n t present }
@@ -132,11 +102,7 @@ pub fn permitted(n: usize, t: usize, present: u32) -> bool
         return true;
     }
     let found = lowest(n, t + 1, present);
-    if found.beyond == 0 {
-        found.count == t + 1
-    } else {
-        false
-    }
+    found.beyond == 0 && found.count == t + 1
 }
 
 // Four to a count e: the binomial coefficients e over 1 to e over 4.
@@ -151,61 +117,50 @@ pub fn weight(p: u32, e: usize, x: usize) -> u32
     if x % 2 == 1 { binomial } else { p - binomial }
 }
 
-// a − b, and 0 where b is larger.
-fn above(a: usize, b: usize) -> usize
-    ensures { result ≡ a - b }
-{
-    if b < a { a - b } else { 0 }
-}
-
 // z/(z − x) for another party z.
+#[tactic(auto, using(model::proofs::Fields::below_four, crate::proofs::Presences::modulus_of, crate::proofs::Presences::ratio_other))]
 fn ratio(field: usize, p: u32, x: usize, z: usize) -> u32
     requires { Fields.InUse field × (p ≡ Fields.modulus field) × (x < 8) × (z < 8) × (z ≢ x) }
     ensures { result ≡ Sharing.ratio p x z }
 {
-    let up = table::inverse(field, above(z, x));
-    let down = table::inverse(field, above(x, z));
+    let up = table::inverse(field, z.saturating_sub(x));
+    let down = table::inverse(field, x.saturating_sub(z));
     arithmetic::mul(p, z as u32, arithmetic::sub(p, up, down))
 }
 
-// The weight of party x with one party more among the others: a party's own ratio is 1.
-fn weight_with(field: usize, p: u32, x: usize, z: usize, weight: u32) -> u32
-    requires { Fields.InUse field × (p ≡ Fields.modulus field) × (x < 8) × (z < 8) × (weight < p) }
-    ensures { (result ≡ mul p (Sharing.ratio p x z) weight) × (result < p) }
-{
-    if z == x {
-        weight
-    } else {
-        arithmetic::mul(p, ratio(field, p, x, z), weight)
-    }
-}
-
-// The Lagrange weight at 0 of party x among the first e of some parties.
+// The Lagrange weight at 0 of party x among the first e of some parties. A party's own ratio is 1.
 fn weight_among(field: usize, parties: [usize; 4], e: usize, x: usize) -> u32
     requires { Fields.InUse field × (e ≤ 4) × (x < 8) × Lists.Below 8 parties }
     ensures { result ≡ Sharing.weight (Fields.modulus field) (take e parties) x }
 {
     let p = table::modulus(field);
     let mut weight = 1;
-    let mut i = e;
-    while i > 0 {
-        i -= 1;
-        weight = weight_with(field, p, x, parties[i], weight);
+    for &z in parties[..e].iter().rev() {
+        if z != x {
+            weight = arithmetic::mul(p, ratio(field, p, x, z), weight);
+        }
     }
     weight
+}
+
+// In the first e places the weights as they are given, and 0 past them.
+fn weights_by<F: Fn(usize) -> u32>(e: usize, weight: F) -> [u32; 4]
+    requires few { e ≤ 4 }
+    requires callable { (i : ℕ) → i < e → F.pre weight i }
+    ensures { (p : ℕ) (parties : List ℕ) → length parties ≡ 4 → ((i v : ℕ) → i < e → F.post weight i v → v ≡ Sharing.weight p (take e parties) (get_or parties i 0)) → FirstWeights p parties e result }
+{
+    let mut weights = [0u32; 4];
+    for i in 0..e {
+        weights[i] = weight(i);
+    }
+    weights
 }
 
 fn weights_among(field: usize, parties: [usize; 4], e: usize) -> [u32; 4]
     requires { Fields.InUse field × (e ≤ 4) × Lists.Below 8 parties }
     ensures { FirstWeights (Fields.modulus field) parties e result }
 {
-    let mut weights = [0u32; 4];
-    let mut i = 0;
-    while i < e {
-        weights[i] = weight_among(field, parties, e, parties[i]);
-        i += 1;
-    }
-    weights
+    weights_by(e, |i| weight_among(field, parties, e, parties[i]))
 }
 
 // The weights of parties 1 to e, by which recovery goes too.
@@ -213,13 +168,7 @@ fn first_weights(p: u32, e: usize) -> [u32; 4]
     requires { Fields.Modulus p × (e ≤ 4) }
     ensures { FirstWeights p (from 1 4) e result }
 {
-    let mut weights = [0u32; 4];
-    let mut i = 0;
-    while i < e {
-        weights[i] = weight(p, e, i + 1);
-        i += 1;
-    }
-    weights
+    weights_by(e, |i| weight(p, e, i + 1))
 }
 
 // The points of these parties with these weights.
@@ -227,28 +176,16 @@ fn points(present: u32, parties: [usize; 4], weights: [u32; 4]) -> Opening
     requires { Lists.Below 8 parties }
     ensures { (result.present ≡ present) × (parties_of result ≡ parties) × (weights_of result ≡ weights) }
 {
-    let first = Point {
-        party: parties[0] as u32,
-        weight: weights[0],
-    };
-    let second = Point {
-        party: parties[1] as u32,
-        weight: weights[1],
-    };
-    let third = Point {
-        party: parties[2] as u32,
-        weight: weights[2],
-    };
-    let fourth = Point {
-        party: parties[3] as u32,
-        weight: weights[3],
+    let point = |i: usize| Point {
+        party: parties[i] as u32,
+        weight: weights[i],
     };
     Opening {
         present,
-        first,
-        second,
-        third,
-        fourth,
+        first: point(0),
+        second: point(1),
+        third: point(2),
+        fourth: point(3),
     }
 }
 

@@ -1,5 +1,4 @@
 pub mod Sizes
 pub mod Decoding
-pub mod Checking
 pub mod Lines
-pub mod Stretching
+pub mod Checking

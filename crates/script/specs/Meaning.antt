@@ -1,11 +1,12 @@
 -- The paper's command, what stands at a place, number and place for the code's.
 -- Assumes nothing.
-use Rattle.std.specs.Prelude.{cond, ℕ, eqb}
+use Rattle.std.specs.Prelude.{cond, ℕ, eqb, Option, Some, None, Result, Ok, Err}
+use Rattle.refusals.specs.declared.Refused.{Refused}
+use Rattle.refusals.specs.Numbers.{number_of}
 use Rattle.model.specs.Script as Paper
 use Rattle.script.specs.declared.command.Command.{Command}
 use Rattle.script.specs.declared.command.Command.TheVariants.{Load, Const, Add, Sub, Scale, Mul, Mod, Trunc, Ltz, Over, Blocks, Reveal, Bitlt, Ltzs}
-use Rattle.script.specs.declared.command.Decoded.{Decoded}
-use Rattle.script.specs.declared.command.Decoded.TheVariants.{Command as Found, Ends}
+use Rattle.script.specs.declared.command.Line.{Line}
 
 abbrev pub meant : Command → Paper.Command
 meant (Load d) = Paper.LOAD d
@@ -34,18 +35,20 @@ standing (Paper.says c next) n i = goes c next
 standing (Paper.ends next) n i = cond (eqb next n) (stops 0 i) (stops 10 next)
 standing (Paper.refusal number) n i = stops number i
 
-abbrev pub standing_of : Decoded → Standing
-standing_of (Found c next) = goes (meant c) next
-standing_of (Ends number place) = stops number place
+-- of what the decoder answers at a place: a command, END at that place, or a refusal
+abbrev pub standing_of : ℕ → Result (Option Line) Refused → Standing
+standing_of at (Ok (Some line)) = goes (meant line.command) line.next
+standing_of at (Ok None) = stops 0 at
+standing_of at (Err refused) = stops (number_of refused.refusal) refused.place
 
--- number and place where the script ends; 0 for a command
-abbrev pub end_number : Decoded → ℕ
-end_number (Found c next) = 0
-end_number (Ends number place) = number
+-- number and place of an answer: 0 and the place that it gives, or the refusal's
+abbrev pub number_told : {A : Type 0} → Result A Refused → ℕ
+number_told (Ok answer) = 0
+number_told (Err refused) = number_of refused.refusal
 
-abbrev pub end_place : Decoded → ℕ
-end_place (Found c next) = 0
-end_place (Ends number place) = place
+abbrev pub place_told : Result ℕ Refused → ℕ
+place_told (Ok place) = place
+place_told (Err refused) = refused.place
 
 -- number and place of a script that was read: 0 and END's offset, or the refusal's
 abbrev pub script_number : Paper.Script → ℕ

@@ -1,5 +1,5 @@
 // The fourteen commands with their operands: registers, k, m, w, h and v as paper and request 7 name them.
-#[derive(Clone, Copy)]
+#[derive(Clone, Copy, Debug, PartialEq, Eq)]
 pub enum Command {
     Load {
         d: usize,
@@ -74,10 +74,9 @@ pub enum Command {
     },
 }
 
-// What stands at a place of a script: a command and the place after it, or the script ends there, with the paper's number and place: 0 and END's
-// offset, or a refusal's.
-#[derive(Clone, Copy)]
-pub enum Decoded {
-    Command(Command, usize),
-    Ends(u32, usize),
+// A command of a script, and the place after it.
+#[derive(Clone, Copy, Debug, PartialEq, Eq)]
+pub struct Line {
+    pub command: Command,
+    pub next: usize,
 }

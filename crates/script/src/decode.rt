@@ -1,11 +1,12 @@
 // What stands at a place of a script: END, a command, or 9 for "a command byte over 0D" (over 0E by request 7), 10 for "operands cut off" and for a
 // script that has ended, 11 for "an operand out of range".
-ghost use Rattle.std.specs.Prelude.{◌≡◌, List, ℕ, ◌≤◌, length};
+ghost use Rattle.std.specs.Prelude.{◌≡◌, List, ℕ, ◌≤◌, length, Err};
 ghost use Rattle.model.specs.Script as Script;
-ghost use Rattle.script.specs.Meaning.{standing, standing_of, end_number, end_place};
+ghost use Rattle.script.specs.Meaning.{standing, standing_of};
 
-use crate::command::Decoded;
+use crate::command::Line;
 use crate::{operands, ranges};
+use refusals::{Refusal, Refused};
 
 const LAST_BYTE: usize = 14;
 
@@ -13,6 +14,7 @@ const LAST_BYTE: usize = 14;
 const SIZES: [usize; 15] = [1, 2, 6, 4, 4, 7, 4, 5, 5, 4, 8, 5, 2, 8, 5];
 
 // How many bytes END or a command takes, by its own byte.
+#[tactic(auto, using(crate::proofs::Sizes::size_known))]
 fn size_of(op: usize) -> usize
     requires { op ≤ Script.last_byte }
     ensures { (s : List ℕ) (i : ℕ) → result ≡ (Script.byte_says s i op).0 }
@@ -20,58 +22,37 @@ fn size_of(op: usize) -> usize
     SIZES[op]
 }
 
-// END at a place: bytes after it are refused, "the offset just after END" being their place.
-fn after_end(s: &[u8], at: usize, next: usize) -> Decoded
-    ensures { standing_of result ≡ standing (Script.ends next) (length s.now) at }
+fn refused(refusal: Refusal, place: usize) -> Result<Option<Line>, Refused>
+    ensures { result ≡ Err (record { refusal = refusal; place = place }) }
 {
-    if next == s.len() {
-        Decoded::Ends(0, at)
-    } else {
-        Decoded::Ends(10, next)
-    }
+    Err(Refused { refusal, place })
 }
 
-// What stands at a place; largest is the field's largest k.
-pub fn decode(p: u32, largest: u32, s: &[u8], at: usize) -> Decoded
-    ensures { standing_of result ≡ standing (Script.reading_at p largest s.now at) (length s.now) at }
+// What stands at a place, None for END; largest is the field's largest k. Bytes after END are refused, "the offset just after END" being their place.
+pub fn decode(p: u32, largest: u32, s: &[u8], at: usize) -> Result<Option<Line>, Refused>
+    ensures { standing_of at result ≡ standing (Script.reading_at p largest s.now at) (length s.now) at }
 {
     if s.len() <= at {
-        return Decoded::Ends(10, at);
+        return refused(Refusal::BadEnd, at);
     }
-    let op = words::index(s[at]);
+    let op = usize::from(s[at]);
     if LAST_BYTE < op {
-        return Decoded::Ends(9, at);
+        return refused(Refusal::BadCommand, at);
     }
     let size = size_of(op);
     if s.len() - at < size {
-        return Decoded::Ends(10, at);
+        return refused(Refusal::BadEnd, at);
     }
+    let next = at + size;
     if op == 0 {
-        return after_end(s, at, at + size);
+        if next < s.len() {
+            return refused(Refusal::BadEnd, next);
+        }
+        return Ok(None);
     }
-    let c = operands::command_at(s, at, op);
-    if ranges::in_range(p, largest, c) {
-        Decoded::Command(c, at + size)
-    } else {
-        Decoded::Ends(11, at)
+    let command = operands::command_at(s, at, op);
+    if !ranges::in_range(p, largest, command) {
+        return refused(Refusal::OutOfRange, at);
     }
-}
-
-// Number and place where the script ends, for the else of a let-else, which binds nothing; 0 and 0 for a command.
-#[derive(Clone, Copy)]
-pub struct Ending {
-    pub number: u32,
-    pub place: usize,
-}
-
-pub fn end_of(d: Decoded) -> Ending
-    ensures { (result.number ≡ end_number d) × (result.place ≡ end_place d) }
-{
-    match d {
-        Decoded::Command(_, _) => Ending {
-            number: 0,
-            place: 0,
-        },
-        Decoded::Ends(number, place) => Ending { number, place },
-    }
+    Ok(Some(Line { command, next }))
 }

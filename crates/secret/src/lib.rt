@@ -31,7 +31,7 @@ impl Row {
 pub fn wide(x: u32) -> u64
     ensures { (result ≡ x) × (result < 2 ^ 32) }
 {
-    x as u64
+    u64::from(x)
 }
 
 // The sum before reducing, of the shares of parties i + 1 to i + e: each times its weight below p, added. The weights are 2p + 1 at most, taken
@@ -40,11 +40,9 @@ fn weighted_sum(p: u32, e: usize, row: Row, i: usize) -> u64
     requires { Fields.Modulus p × (e ≤ 4) × (i + e ≤ 7) }
     ensures { result ≡ Sharing.weighted p (from 1 e) (λ x. Sharing.at 0 row.shares (i + x)) }
 {
-    let mut sum: u64 = 0;
-    let mut x: usize = 0;
-    while x < e {
-        sum += wide(presence::weight(p, e, x + 1)) * wide(row.shares[i + x]);
-        x += 1;
+    let mut sum = 0;
+    for x in 0..e {
+        sum += u64::from(presence::weight(p, e, x + 1)) * u64::from(row.shares[i + x]);
     }
     sum
 }
@@ -54,7 +52,7 @@ pub fn reduce_sum(p: u32, sum: u64) -> u32
     requires { Fields.Modulus p }
     ensures { (result ≡ sum % p) × (result < p) }
 {
-    (sum % wide(p)) as u32
+    (sum % u64::from(p)) as u32
 }
 
 // The value at place i that the shares of parties i + 1 to i + e give.
@@ -86,31 +84,21 @@ pub fn is_sharing(p: u32, n: usize, t: usize, row: Row) -> bool
     requires { Fields.Modulus p × Fields.Parties n t }
     ensures { result ≡ Sharing.is_sharing p n t (Rows.row n (λ j. get_or row.shares j 0)) }
 {
-    if shares_below(p, n, row) {
-        let e = t + 1;
-        let mut i = 1;
-        while i + e <= n {
-            if value_before(p, e, row, i) != row.shares[i - 1] {
-                return false;
-            }
-            i += 1;
-        }
-        true
-    } else {
-        false
+    if !shares_below(p, n, row) {
+        return false;
     }
+    let e = t + 1;
+    for i in 1..n + 1 - e {
+        if value_before(p, e, row, i) != row.shares[i - 1] {
+            return false;
+        }
+    }
+    true
 }
 
 fn shares_below(p: u32, n: usize, row: Row) -> bool
     requires { n ≤ 7 }
     ensures { result ≡ all_below p (Rows.tab n (λ j. get_or row.shares j 0)) }
 {
-    let mut j = 0;
-    while j < n {
-        if p <= row.shares[j] {
-            return false;
-        }
-        j += 1;
-    }
-    true
+    row.shares[..n].iter().all(|&share| share < p)
 }

@@ -1,12 +1,11 @@
 -- The numbers of a header, the frame of one that is permitted, and what a frame says of its header.
 -- Assumes nothing.
 use mathlib.Core.Path.{◌≡◌, refl, sym, ap₂, ◌∙◌}
-use mathlib.Core.Bool.{false, ◌&&◌}
+use mathlib.Core.Bool.{◌&&◌}
 use mathlib.Core.List.{List, ◌++◌}
-use Prim.Native.Nat.{ℕ, ◌+◌, ◌*◌, ◌≤◌, ◌<◌}
+use Prim.Native.Nat.{ℕ, ◌+◌, ◌*◌, ◌≤◌}
 use native.Mathlib.Nat.{mul-le-mul}
 use native.Mathlib.Omega.{arith}
-use borrow.Author.Tests.{le-leb, lt-leb}
 use lib.Dec.{leb, le→leb}
 use lib.ListN.{get_or}
 use Rattle.algebra.proofs.Tests.{and_both}
@@ -170,21 +169,3 @@ module _ {h : Header} {f : Frame} (H : Headed h f) where
 
   pub end_most : f.triple + 4 * f.n * 3 * f.triples ≤ 59723
   end_most = rw end_is (length_most h permitted)
-
--- the limits, test by test
-module _ (h : Header) where
-  pub inputs_over : 64 < h.inputs → false ≡ limits h
-  unfolding limits
-  inputs_over a = rw (lt-leb h.inputs 64 a)
-
-  pub masks_over : h.inputs ≤ 64 → 16 < h.masks → false ≡ limits h
-  unfolding limits
-  masks_over a b = rw (le-leb h.inputs 64 a, lt-leb h.masks 16 b)
-
-  pub triples_over : h.inputs ≤ 64 → h.masks ≤ 16 → 512 < h.triples → false ≡ limits h
-  unfolding limits
-  triples_over a b c = rw (le-leb h.inputs 64 a, le-leb h.masks 16 b, lt-leb h.triples 512 c)
-
-  pub script_decides : h.inputs ≤ 64 → h.masks ≤ 16 → h.triples ≤ 512 → leb h.script 1024 ≡ limits h
-  unfolding limits
-  script_decides a b c = rw (le-leb h.inputs 64 a, le-leb h.masks 16 b, le-leb h.triples 512 c)

@@ -1,10 +1,10 @@
--- A loop that tests each element of a run, one law for each of its needs.
+-- A test of each element of a run, as a chain over the elements' numbers has it.
 -- Assumes nothing.
-use mathlib.Core.Path.{◌≡◌, refl, sym, ◌∙◌}
-use mathlib.Core.Bool.{Bool, true, false}
+use mathlib.Core.Path.{◌≡◌, refl}
+use mathlib.Core.Bool.{Bool}
+use Rattle.std.specs.List.{list_all, range_with_len}
 use mathlib.Core.List.{List, [], ◌∷◌}
-use Prim.Native.Nat.{ℕ, suc, ◌+◌, ◌-◌, ◌*◌, ◌≤◌, ◌<◌}
-use native.Mathlib.Nat.{mul-le-mul_left}
+use Prim.Native.Nat.{ℕ, zero, suc, ◌+◌, ◌*◌}
 use native.Mathlib.Omega.{arith}
 use Rattle.model.specs.Bytes.{row_at}
 use Rattle.model.specs.Sheet.{all, rows_at, masks_from, triple_at, triples_from}
@@ -26,40 +26,16 @@ pub triples_run : (s : List ℕ) (n : ℕ) → Run (triple_at s n) (4 * n * 3) (
 unfolding triples_from
 triples_run s n = record { none = λ i. refl; next = λ i c. refl }
 
--- k elements passed, and the next one stands at from: the test of the whole run is the test of what is left of it
-pub record Testing {A : Type 0} (f : A → Bool) (run : ℕ → ℕ → List A) (step i count k from : ℕ) : Type 0 where
-  pub within : k ≤ count
-  pub place : from ≡ i + step * k
-  pub is : all f (run i count) ≡ all f (run from (count - k))
-
-module _ {A : Type 0} {f : A → Bool} {run : ℕ → ℕ → List A} {step i count : ℕ} where
-  pub testing_start : Testing f run step i count 0 i
-  testing_start =
-      let e : count - 0 ≡ count = omega arith in
-      record { within = omega arith; place = omega arith; is = rw e }
-
-  -- the next element ends by the run's end
-  pub testing_fits : {k from : ℕ} → Testing f run step i count k from → k < count → from + step ≤ i + step * count
-  testing_fits {k} G h = let m : step * suc k ≤ step * count = mul-le-mul_left step h in omega (arith, G.place)
-
-  pub testing_more : {at : ℕ → A} → Run at step run → {k from : ℕ} → Testing f run step i count k from → k < count → f (at from) ≡ true
-      → Testing f run step i count (k + 1) (from + step)
+-- the test of each element of a run, as a chain over their numbers has it
+module _ {A : Type 0} (f : A → Bool) {at : ℕ → A} {run : ℕ → ℕ → List A} {step : ℕ} (R : Run at step run) (i : ℕ) where
+  all_numbered : (a c : ℕ) → list_all (λ k. f (at (i + step * k))) (range_with_len a c) ≡ all f (run (i + step * a) c)
   unfolding all
-  testing_more R {k} {from} G h e =
-      let m : count - k ≡ suc (count - (k + 1)) = omega arith in
-      record {
-        within = omega arith;
-        place = omega (arith, G.place);
-        is = G.is ∙ rw (m, R.next from (count - (k + 1)), e);
-      }
+  all_numbered a zero = rw (R.none (i + step * a))
+  all_numbered a (suc c) =
+      let next : i + step * (a + 1) ≡ i + step * a + step = omega arith in
+      rw (R.next (i + step * a) c, all_numbered (a + 1) c, next)
 
-  pub testing_fails : {at : ℕ → A} → Run at step run → {k from : ℕ} → Testing f run step i count k from → k < count → f (at from) ≡ false
-      → false ≡ all f (run i count)
-  unfolding all
-  testing_fails R {k} {from} G h e =
-      let m : count - k ≡ suc (count - (k + 1)) = omega arith in
-      sym (G.is ∙ rw (m, R.next from (count - (k + 1)), e))
-
-  pub testing_end : {at : ℕ → A} → Run at step run → {k from : ℕ} → Testing f run step i count k from → count ≤ k → true ≡ all f (run i count)
-  unfolding all
-  testing_end R {k} {from} G h = let m : count - k ≡ 0 = omega arith in sym (G.is ∙ rw (m, R.none from))
+  pub all_run : (count : ℕ) → list_all (λ k. f (at (i + step * k))) (range_with_len 0 count) ≡ all f (run i count)
+  all_run count =
+      let first : i + step * 0 ≡ i = omega arith in
+      rw first at (all_numbered 0 count)

@@ -14,22 +14,14 @@ fn good_mask(setting: Setting, s: &[u8], i: usize) -> bool
     ensures { result ≡ Sheet.good_mask (setting_of setting) (Sheet.rows_at s.now setting.n i setting.l) }
 {
     let p = setting.p;
-    let l = setting.l;
     let n = setting.n;
-    let t = setting.t;
     let mut v: u32 = 0;
-    let mut power: u32 = 1;
-    let mut from = i;
-    let mut k = 0;
-    while k < l {
-        let bit = secret::secret_of(p, t, rows::read_row(s, n, from));
+    for k in 0..setting.l {
+        let bit = secret::secret_of(p, setting.t, rows::read_row(s, n, i + 4 * n * k));
         if 1 < bit {
             return false;
         }
-        v = v + bit * power;
-        power = 2 * power;
-        from = from + 4 * n;
-        k += 1;
+        v += bit << k;
     }
     v < p
 }
@@ -39,21 +31,11 @@ pub fn good_masks(setting: Setting, s: &[u8], i: usize, count: usize) -> bool
     requires { Fitting setting × (i + 4 * setting.n * setting.l * count ≤ length s.now) }
     ensures { result ≡ Sheet.all (Sheet.good_mask (setting_of setting)) (Sheet.masks_from s.now setting.n setting.l i count) }
 {
-    let size = 4 * setting.n * setting.l;
-    let mut from = i;
-    let mut k = 0;
-    while k < count {
-        if good_mask(setting, s, from) {
-            from = from + size;
-            k += 1;
-        } else {
-            return false;
-        }
-    }
-    true
+    (0..count).all(|k| good_mask(setting, s, i + 4 * setting.n * setting.l * k))
 }
 
 // Whether the triple whose three rows stand from place i on is well formed.
+#[tactic(auto, unfolding(model::specs::Sheet::good_triple))]
 fn good_triple(setting: Setting, s: &[u8], i: usize) -> bool
     requires { Fitting setting × (i + 4 * setting.n * 3 ≤ length s.now) }
     ensures { result ≡ Sheet.good_triple (setting_of setting) (Sheet.triple_at s.now setting.n i) }
@@ -72,16 +54,5 @@ pub fn good_triples(setting: Setting, s: &[u8], i: usize, count: usize) -> bool
     requires { Fitting setting × (i + 4 * setting.n * 3 * count ≤ length s.now) }
     ensures { result ≡ Sheet.all (Sheet.good_triple (setting_of setting)) (Sheet.triples_from s.now setting.n i count) }
 {
-    let size = 4 * setting.n * 3;
-    let mut from = i;
-    let mut k = 0;
-    while k < count {
-        if good_triple(setting, s, from) {
-            from = from + size;
-            k += 1;
-        } else {
-            return false;
-        }
-    }
-    true
+    (0..count).all(|k| good_triple(setting, s, i + 4 * setting.n * 3 * k))
 }

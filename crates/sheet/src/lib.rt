@@ -10,26 +10,20 @@ ghost use Rattle.std.specs.Prelude.{◌≡◌, ◌++◌, eqb, length};
 ghost use Rattle.model.specs.Refusing.{first_failed};
 ghost use Rattle.model.specs.Sheet as Sheet;
 ghost use Rattle.presence.specs.Openings.{WorkedBy};
+ghost use Rattle.refusals.specs.Numbers.{told};
 ghost use Rattle.sheet.specs.Framed.{setting_in, inputs_of, deal_of, Headed, Whole, RunFramed};
 ghost use Rattle.sheet.specs.Reading.{Reads};
 
 use crate::frame::Frame;
-use crate::header::Read;
-use sharing::setting::Setting;
+use refusals::Refusal;
 
-// The frame of a sheet for a run with these parties present, or the number of its refusal, 1 to 8 or 12.
-pub fn read_sheet(s: &[u8], present: u32) -> Read
+// The frame of a sheet for a run with these parties present, or what refuses it, 1 to 8 or 12.
+pub fn read_sheet(s: &[u8], present: u32) -> Result<Frame, Refusal>
     ensures { Reads (Sheet.sheet_tests present s.now) (RunFramed present s.now) result }
 {
-    let read = header::read_run_header(s, present);
-    let Read::Sheet(f) = read else {
-        return read;
-    };
-    let number = body_number(s, f);
-    if number != 0 {
-        return Read::Refused(number);
-    }
-    read
+    let f = header::read_run_header(s, present)?;
+    check_body(s, f)?;
+    Ok(f)
 }
 
 // The length that the header of a sheet implies.
@@ -48,48 +42,37 @@ pub fn has_implied_length(s: &[u8], f: Frame) -> bool
     s.len() == implied_length(s, f)
 }
 
-// 4 for the sheet's length, then 5 to 8, or 0.
-fn body_number(s: &[u8], f: Frame) -> u32
+// 4 for the sheet's length, then 5 to 8.
+#[tactic(auto, using(model::proofs::Trying::trying, crate::proofs::Answers::whole), unfolding(model::specs::Sheet::length_tests))]
+fn check_body(s: &[u8], f: Frame) -> Result<(), Refusal>
     requires { Headed (Sheet.header_of s.now) f × WorkedBy f.p f.n f.t f.opening }
-    ensures { result ≡ first_failed (Sheet.length_tests (Sheet.header_of s.now) s.now ++ Sheet.row_tests (setting_in f) (inputs_of s.now f) (deal_of s.now f)) }
+    ensures { told result ≡ first_failed (Sheet.length_tests (Sheet.header_of s.now) s.now ++ Sheet.row_tests (setting_in f) (inputs_of s.now f) (deal_of s.now f)) }
 {
-    if has_implied_length(s, f) {
-        rows_number(s, f)
-    } else {
-        4
+    if !has_implied_length(s, f) {
+        return Err(Refusal::BadLength);
     }
+    check_rows(s, f)
 }
 
-// 5 to 8, or 0: "each over the whole sheet before the next".
+// 5 to 8: "each over the whole sheet before the next".
 #[tactic(auto, using(model::proofs::Trying::trying, crate::proofs::Headers::modulus_in, crate::proofs::Headers::row_count, crate::proofs::Answers::rows_told, crate::proofs::Answers::rows_within), unfolding(model::specs::Sheet::row_tests))]
-fn rows_number(s: &[u8], f: Frame) -> u32
+fn check_rows(s: &[u8], f: Frame) -> Result<(), Refusal>
     requires { Headed (Sheet.header_of s.now) f × WorkedBy f.p f.n f.t f.opening × Whole s.now f }
-    ensures { result ≡ first_failed (Sheet.row_tests (setting_in f) (inputs_of s.now f) (deal_of s.now f)) }
+    ensures { told result ≡ first_failed (Sheet.row_tests (setting_in f) (inputs_of s.now f) (deal_of s.now f)) }
 {
-    let opening = f.opening;
-    let setting = Setting {
-        p: f.p,
-        l: f.l,
-        n: f.n,
-        t: f.t,
-        opening,
-    };
+    let setting = f.setting();
     let count = f.rows();
-    if rows::all_below(f.p, f.n, s, f.input, count) {
-        if rows::all_sharings(f.p, f.n, f.t, s, f.input, count) {
-            if deal::good_masks(setting, s, f.mask, f.masks) {
-                if deal::good_triples(setting, s, f.triple, f.triples) {
-                    0
-                } else {
-                    8
-                }
-            } else {
-                7
-            }
-        } else {
-            6
-        }
-    } else {
-        5
+    if !rows::all_below(f.p, f.n, s, f.input, count) {
+        return Err(Refusal::NotBelowP);
     }
+    if !rows::all_sharings(f.p, f.n, f.t, s, f.input, count) {
+        return Err(Refusal::NoSharing);
+    }
+    if !deal::good_masks(setting, s, f.mask, f.masks) {
+        return Err(Refusal::BadMask);
+    }
+    if !deal::good_triples(setting, s, f.triple, f.triples) {
+        return Err(Refusal::BadTriple);
+    }
+    Ok(())
 }

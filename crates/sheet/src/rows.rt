@@ -12,17 +12,7 @@ pub fn all_below(p: u32, n: usize, s: &[u8], i: usize, count: usize) -> bool
     requires { i + 4 * n * count ≤ length s.now }
     ensures { result ≡ Sheet.all (λ x. Lists.all_below p (take n x)) (Sheet.rows_at s.now n i count) }
 {
-    let shares = n * count;
-    let mut from = i;
-    let mut k = 0;
-    while k < shares {
-        if p <= words::word(s, from) {
-            return false;
-        }
-        from = from + 4;
-        k += 1;
-    }
-    true
+    (0..n * count).all(|k| words::word(s, i + 4 * k) < p)
 }
 
 // Whether each of so many rows, from place i on, is a sharing.
@@ -30,15 +20,5 @@ pub fn all_sharings(p: u32, n: usize, t: usize, s: &[u8], i: usize, count: usize
     requires { Fields.Modulus p × Fields.Parties n t × (i + 4 * n * count ≤ length s.now) }
     ensures { result ≡ Sheet.all (λ x. Sharing.is_sharing p n t x) (Sheet.rows_at s.now n i count) }
 {
-    let mut from = i;
-    let mut k = 0;
-    while k < count {
-        if secret::is_sharing(p, n, t, rows::read_row(s, n, from)) {
-            from = from + 4 * n;
-            k += 1;
-        } else {
-            return false;
-        }
-    }
-    true
+    (0..count).all(|k| secret::is_sharing(p, n, t, rows::read_row(s, n, i + 4 * n * k)))
 }

@@ -29,14 +29,12 @@ pub fn comparison(
     let mut lt = first_row(setting, v % 2 == 1, rows::cell_row(bits, 0));
     let mut rest = v / 2;
     let mut next = at;
-    let mut k = 1;
-    while k < w {
+    for k in 1..w {
         let bit = rows::cell_row(bits, k);
         let q = product::product(setting, next, s, log, bit, lt);
         lt = next_row(setting, rest % 2 == 1, bit, lt, q);
-        rest = rest / 2;
+        rest /= 2;
         next = next.past(setting, 1);
-        k += 1;
     }
     lt
 }

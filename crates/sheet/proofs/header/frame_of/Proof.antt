@@ -1,6 +1,6 @@
 -- `header::frame_of` meets its contract: the places fit, since the counts are within their limits.
 -- Assumes nothing.
-use Rattle.sheet.specs.Reading.{told}
+use Rattle.sheet.specs.Reading.{numbers_of}
 use Rattle.model.proofs.Fields.{below_four}
 use Rattle.model.proofs.Lengths.{Fitting, fitting}
 use Rattle.model.specs.Sheet.{mask_bits}
@@ -10,8 +10,8 @@ use borrow.Author.Rules.{rules}
 use Rattle.sheet.proofs.header.frame_of.Statement.{statement}
 use Rattle.sheet.proofs.header.frame_of.Tie as tie
 
-fits : (c : tie.Start) → Fitting (told c.args.h)
-fits c = fitting (told c.args.h) c.requires
+fits : (c : tie.Start) → Fitting (numbers_of c.args.h)
+fits c = fitting (numbers_of c.args.h) c.requires
 
 add-input : tie.Need-overflow_add-input
 add-input c = omega (arith, fits c.before.before.before.before)

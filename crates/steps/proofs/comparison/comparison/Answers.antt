@@ -1,0 +1,20 @@
+use Rattle.std.proofs.Common.{rules}
+use Rattle.steps.proofs.Comparing.{comparing_start, turn_room, turn_ahead, comparing_more, comparing_end}
+use Rattle.steps.proofs.comparison.comparison.Goals as goal
+
+pub loop-k-init : goal.loop-k-init
+loop-k-init c = search (rules, comparing_start)
+
+pub product-q-requires : goal.product-q-requires
+product-q-requires c = turn_room c.loop-k.invariant c.loop-k-test.true
+
+pub past-next-requires : goal.past-next-requires
+past-next-requires c = turn_ahead c.loop-k.invariant c.loop-k-test.true
+
+pub loop-k-preserved : goal.loop-k-preserved
+loop-k-preserved c =
+    rw c.past-next.ensures
+    (comparing_more c.loop-k.invariant c.loop-k-test.true c.cell_row-bit.ensures c.product-q.ensures (search rules) c.next_row-lt.ensures)
+
+pub returns : goal.returns
+returns c = comparing_end c.loop-k.invariant c.loop-k-test.false
