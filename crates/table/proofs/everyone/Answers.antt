@@ -1,12 +1,6 @@
 -- `everyone` meets its contract: where the header has no n of at most 7, 1, 2 or 3 refuses, whatever the byte is.
 -- Assumes nothing.
-use mathlib.Core.Path.{◌≡◌, refl, ap}
-use mathlib.Core.Logic.{◌≢◌}
-use mathlib.Core.List.{List}
-use Prim.Native.Nat.{ℕ, ◌<◌}
-use native.Mathlib.Omega.{arith}
-use borrow.Author.Rules.{rules}
-use lib.ListN.{length, get_or}
+use Rattle.std.proofs.Common.{rules, arith, ◌≡◌, ◌≢◌, refl, ap, List, ℕ, ◌<◌, length, get_or}
 use Rattle.model.specs.Presence as Presence
 use Rattle.model.specs.Refusing.{first_failed}
 use Rattle.model.specs.Sheet.{header_of, header_size, header_tests}
@@ -14,8 +8,8 @@ use Rattle.model.specs.Run.{run}
 use Rattle.model.proofs.Lengths.{header_read}
 use Rattle.model.proofs.PresentRuns.{present_runs}
 use Rattle.table.specs.Ample.{Everyone}
-use Rattle.table.proofs.everyone.Statement.{statement}
-use Rattle.table.proofs.everyone.Tie as tie
+use Rattle.table.proofs.everyone.Goals as goal
+use Rattle.table.proofs.everyone.Goals.{then-s-lt2-via-then-s-lt2, then-s-lt2-via-else-s-lt2+then-s-gt7}
 
 whatever : (s : List ℕ) (b : ℕ) → first_failed (header_tests s) ≢ 0 → Everyone s b
 whatever s b z log revealed = present_runs.header_refused b _ s log revealed z
@@ -32,7 +26,12 @@ by_n : (s : List ℕ) (b : ℕ) → b ≡ Presence.everyone (get_or s 1 0) → E
 unfolding header_of
 by_n s b e log revealed = ap (λ (x : ℕ). run x s log revealed) e
 
-pub everyone_spec : {M : Type 1} → statement M
-everyone_spec =
-    tie.close
-    (tie.spec (λ c. search (rules, too_short)) (λ c. search rules) (λ c. search (rules, too_many)) (λ c. search rules) (λ c κs. search rules) (λ c. search (rules, by_n)))
+pub returns-then-s-lt2 : goal.returns-then-s-lt2
+returns-then-s-lt2 c =
+    elim c.then-s-lt2.branch [
+      | then-s-lt2-via-then-s-lt2 w ↦ search (rules, too_short)
+      | then-s-lt2-via-else-s-lt2+then-s-gt7 w ↦ search (rules, too_many)
+    ]
+
+pub returns : goal.returns
+returns c = search (rules, by_n)

@@ -1,10 +1,6 @@
 -- `run_ample` meets its contract: everyone is present, and no run outgrows the buffers.
 -- Assumes nothing.
-use mathlib.Core.Path.{◌≡◌, sym, ap, ◌∙◌}
-use mathlib.Core.List.{List}
-use Prim.Native.Nat.{ℕ, ◌≤◌}
-use borrow.Author.Rules.{rules}
-use lib.ListN.{length}
+use Rattle.std.proofs.Common.{rules, ◌≡◌, sym, ap, ◌∙◌, List, ℕ, ◌≤◌, length}
 use Rattle.model.specs.Presence.{everyone}
 use Rattle.model.specs.Sheet.{header_of}
 use Rattle.model.specs.Run.{Outcome, run}
@@ -12,8 +8,7 @@ use Rattle.model.specs.Buffers.{record_length, revealed_length}
 use Rattle.model.proofs.PresentRuns.{present_runs}
 use Rattle.model.proofs.Buffers.{no_run_outgrows, all_held}
 use Rattle.table.specs.Ample.{Everyone, Ample}
-use Rattle.table.proofs.run_ample.Statement.{statement}
-use Rattle.table.proofs.run_ample.Tie as tie
+use Rattle.table.proofs.run_ample.Goals as goal
 
 ample : (s log revealed : List ℕ) (b : ℕ) {x : Outcome} → record_length ≤ length log → revealed_length ≤ length revealed → Everyone s b → x ≡ run b s log revealed
     → Ample s log revealed x
@@ -32,8 +27,5 @@ ample s log revealed b h k every q =
       values = rw (ap (λ (x : Outcome). x.counts.revealed) e) held.1;
     }
 
-returns : tie.Need-returns
+pub returns : goal.returns
 returns c = search (rules, ample)
-
-pub run_ample_spec : {M : Type 1} → statement M
-run_ample_spec = tie.close (tie.spec (λ c κs. search rules) (λ c κs. search rules) (λ c. search rules) (λ c. search rules) returns)
