@@ -49,6 +49,6 @@ fn turn(way: u32, input: &[u8], room: usize)
     } else {
         column_form::to_sheet(input, output)
     };
-    line(format_args!("end {answer}"));
+    line(format_args!("end {}", refusals::number(&answer)));
     line(format_args!("bytes{}", Spaced(&*output)));
 }

@@ -12,10 +12,10 @@ ghost use Rattle.table.specs.Ample.{Everyone, Ample};
 use costs::counts::Counts;
 use machine::run;
 use machine::run::Answer;
+use refusals::number;
 use report::lines;
 use report::text::line;
 use sheet::header;
-use sheet::header::Read;
 
 // One byte more than the largest sheet has.
 const BYTES_READ: usize = 59724;
@@ -50,10 +50,10 @@ fn run_lent(s: &[u8], log: &mut [u32], revealed: &mut [u32])
 {
     let answer = run_ample(s, log, revealed);
     let spent = answer.table.spent;
-    if is_run(answer.number) {
+    if is_run(number(&answer.ended)) {
         run_lines(s, spent.counts, log, revealed);
     }
-    lines::end(answer.number, answer.place, spent.counts);
+    lines::end(answer.ended, answer.place, spent.counts);
 }
 
 // "Program `table` takes everyone as present": the byte for the header's n. Where there is no such n, 1, 2 or 3 refuses, whatever the byte is.
@@ -76,17 +76,17 @@ fn run_ample(s: &[u8], log: &mut [u32], revealed: &mut [u32]) -> Answer
 
 // Whether the sheet is run. "When the input is refused only the last line is printed."
 #[tactic(auto, unfolding(model::specs::Refusals::is_run))]
-fn is_run(answer: u32) -> bool
-    ensures { result ≡ is_run answer }
+fn is_run(number: u32) -> bool
+    ensures { result ≡ is_run number }
 {
-    answer == 0 || answer >= 21
+    number == 0 || number >= 21
 }
 
 // The lines before the last of a sheet that is run, which has a header.
 fn run_lines(s: &[u8], spent: Counts, log: &[u32], revealed: &[u32])
     requires { (spent.openings * (Sheet.header_of s.now).n ≤ length log.now) × (spent.revealed ≤ length revealed.now) }
 {
-    let Read::Sheet(f) = header::read_header(s) else {
+    let Ok(f) = header::read_header(s) else {
         return;
     };
     line(format_args!("field {} parties {} threshold {}", f.p, f.n, f.t));

@@ -8,5 +8,5 @@ use Rattle.table.proofs.run_lines.Goals as goal
 pub bounds-s-0 : goal.bounds-s-0
 unfolding header_size
 bounds-s-0 c =
-    let l = long_read _ c.read_header.ensures c.in-Sheet.is in
+    let l = long_read _ c.in-Ok.ensures.0 in
     search rules
