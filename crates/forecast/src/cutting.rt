@@ -8,6 +8,7 @@ use sheet::header;
 use sheet::header::Read;
 
 // How many bytes are taken.
+#[tactic(auto, using(sheet::proofs::Answers::header_frame, crate::proofs::Taking::header_passes, crate::proofs::Taking::header_refused))]
 pub fn head_length(input: &[u8]) -> usize
     ensures { Cut input.now (taken input.now) result }
 {
@@ -17,6 +18,7 @@ pub fn head_length(input: &[u8]) -> usize
     }
 }
 
+#[tactic(auto, using(crate::proofs::Taking::whole_sheet, crate::proofs::Taking::other_input))]
 fn by_length(input: &[u8], f: Frame) -> usize
     requires { Headed (header_of input.now) f }
     ensures { Cut input.now (taken_by input.now) result }

@@ -1,10 +1,11 @@
 // What the number of a forecast means, by the script: 0, 9 to 11, and 21 to 24.
 ghost use Rattle.std.specs.Prelude.{◌≤◌};
 
-use crate::{amounts, names, needs};
+use crate::amounts::{All, Plain, parts_of};
+use crate::{names, needs};
 use costs::counts::Counts;
 use forecasting::lines::Foreseen;
-use report::number::{count, line_end, number, put};
+use report::text::{line, put};
 use script::command::Decoded;
 use script::decode;
 use sheet::frame::Frame;
@@ -23,22 +24,20 @@ pub fn explain(f: Frame, script: &[u8], found: Foreseen)
 }
 
 fn comes_to_end(f: Frame, spent: Counts) {
-    put(b"By header and script the run comes to END. It takes ");
-    amounts::part_of_all(spent, needs::there(f));
-    put(b".");
-    line_end();
+    let parts = All(parts_of(spent, needs::there(f)));
+    line(format_args!("By header and script the run comes to END. It takes {parts}.",));
 }
 
 fn no_command(script: &[u8], at: usize) {
-    count(b"The byte at ", at);
-    if at < script.len() {
-        number(b" is ", words::wide(script[at]));
+    put(format_args!("The byte at {at}"));
+    if let Some(byte) = script.get(at) {
+        put(format_args!(" is {byte}"));
     }
-    put(b", and the last command is 14.");
-    line_end();
+    line(", and the last command is 14.");
 }
 
 // Where reading the script stops: at END, or at what is refused.
+#[tactic(auto, using(script::proofs::Lines::closer))]
 fn stops_at(f: Frame, script: &[u8]) -> usize {
     let mut at = 0;
     loop {
@@ -52,23 +51,17 @@ fn stops_at(f: Frame, script: &[u8]) -> usize {
 // No END, operands cut off, or bytes after END, whose place is not where reading stops.
 fn no_end(f: Frame, script: &[u8], place: usize) {
     if place == script.len() {
-        put(b"The script has ");
-        amounts::plain(place, b"byte");
-        put(b" and no END.");
+        let size = Plain(place, "byte");
+        line(format_args!("The script has {size} and no END."));
+    } else if stops_at(f, script) == place {
+        let command = names::command(script, place);
+        line(format_args!("{command} is cut off by the script's end."));
     } else {
-        if stops_at(f, script) == place {
-            names::command(script, place);
-            put(b" is cut off by the script's end.");
-        } else {
-            count(b"Bytes follow END, from ", place);
-            put(b" on.");
-        }
+        line(format_args!("Bytes follow END, from {place} on."));
     }
-    line_end();
 }
 
 fn out_of_range(script: &[u8], at: usize) {
-    names::command(script, at);
-    put(b" has an operand out of range.");
-    line_end();
+    let command = names::command(script, at);
+    line(format_args!("{command} has an operand out of range."));
 }

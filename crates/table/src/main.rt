@@ -25,6 +25,8 @@ const RECORD_LENGTH: usize = 10850;
 
 const REVEALED_LENGTH: usize = 511;
 
+const MOST_PARTIES: u8 = 7;
+
 fn main() {
     let mut input = [0u8; BYTES_READ];
     let got = io::read_full(0, &mut input);
@@ -60,7 +62,7 @@ fn run_lent(s: &[u8], log: &mut [u32], revealed: &mut [u32])
 fn everyone(s: &[u8]) -> u8
     ensures { Everyone s.now result }
 {
-    if s.len() < 2 || s[1] > 7 {
+    if s.len() < 2 || s[1] > MOST_PARTIES {
         return 0;
     }
     presence::everyone(usize::from(s[1]))

@@ -9,7 +9,7 @@ use Rattle.model.proofs.Lengths.{header_read}
 use Rattle.model.proofs.PresentRuns.{present_runs}
 use Rattle.table.specs.Ample.{Everyone}
 use Rattle.table.proofs.everyone.Goals as goal
-use Rattle.table.proofs.everyone.Goals.{then-s-lt2-via-then-s-lt2, then-s-lt2-via-else-s-lt2+then-s-gt7}
+use Rattle.table.proofs.everyone.Goals.{then-s-lt2-via-then-s-lt2, then-s-lt2-via-else-s-lt2+then-s-gt-MOST_PARTIES}
 
 whatever : (s : List ℕ) (b : ℕ) → first_failed (header_tests s) ≢ 0 → Everyone s b
 whatever s b z log revealed = present_runs.header_refused b _ s log revealed z
@@ -30,7 +30,7 @@ pub returns-then-s-lt2 : goal.returns-then-s-lt2
 returns-then-s-lt2 c =
     elim c.then-s-lt2.branch [
       | then-s-lt2-via-then-s-lt2 w ↦ search (rules, too_short)
-      | then-s-lt2-via-else-s-lt2+then-s-gt7 w ↦ search (rules, too_many)
+      | then-s-lt2-via-else-s-lt2+then-s-gt-MOST_PARTIES w ↦ search (rules, too_many)
     ]
 
 pub returns : goal.returns
