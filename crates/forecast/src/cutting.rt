@@ -5,16 +5,15 @@ ghost use Rattle.forecast.specs.Taken.{taken, taken_by, Cut};
 
 use sheet::frame::Frame;
 use sheet::header;
-use sheet::header::Read;
 
 // How many bytes are taken.
-#[tactic(auto, using(sheet::proofs::Answers::header_frame, crate::proofs::Taking::header_passes, crate::proofs::Taking::header_refused))]
+#[tactic(auto, using(crate::proofs::Taking::header_passes, crate::proofs::Taking::header_refused))]
 pub fn head_length(input: &[u8]) -> usize
     ensures { Cut input.now (taken input.now) result }
 {
     match header::read_header(input) {
-        Read::Sheet(f) => by_length(input, f),
-        Read::Refused(_) => input.len(),
+        Ok(f) => by_length(input, f),
+        Err(_) => input.len(),
     }
 }
 

@@ -6,6 +6,7 @@ ghost use Rattle.sheet.specs.Framed.{Headed};
 use crate::amounts::Plain;
 use crate::meaning;
 use forecasting::lines::Foreseen;
+use refusals::Refusal;
 use report::text::{line, put};
 use sheet::frame::Frame;
 
@@ -19,13 +20,13 @@ fn input_has(head: &[u8]) {
 }
 
 // 1, 2, 3, or 4 for a count.
-pub fn refused(head: &[u8], refusal: u32) {
+pub fn refused(head: &[u8], refusal: Refusal) {
     match refusal {
-        1 => no_header(head),
-        2 => field(head),
-        3 => parties(head),
-        4 => limits(head),
-        _ => put(format_args!("The number is {refusal}")),
+        Refusal::NoHeader => no_header(head),
+        Refusal::BadField => field(head),
+        Refusal::BadParties => parties(head),
+        Refusal::BadLength => limits(head),
+        _ => put(format_args!("The number is {}", u32::from(refusal))),
     }
     line(".");
 }

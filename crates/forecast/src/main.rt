@@ -15,9 +15,9 @@ ghost use Rattle.forecasting.specs.Forecasting.{foreseen_of};
 ghost use Rattle.forecast.specs.Taken.{taken};
 
 use forecasting::lines::Foreseen;
+use refusals::number;
 use report::text::line;
 use sheet::header;
-use sheet::header::Read;
 
 // One byte more than the largest sheet has.
 const BYTES_READ: usize = 59724;
@@ -40,7 +40,7 @@ fn tell_read(input: &[u8], got: usize)
 #[tactic(auto, using(crate::proofs::Taking::part_length))]
 fn tell(input: &[u8]) {
     let found = foresee_taken(input);
-    line(format_args!("end {} at {}", found.number, found.place));
+    line(format_args!("end {} at {}", number(&found.ended), found.place));
     let size = cutting::head_length(input);
     explain(&input[..size], found);
 }
@@ -54,10 +54,9 @@ fn foresee_taken(input: &[u8]) -> Foreseen
     forecasting::foresee(&input[..size])
 }
 
-#[tactic(auto, using(sheet::proofs::Answers::header_frame))]
 fn explain(head: &[u8], found: Foreseen) {
     match header::read_header(head) {
-        Read::Sheet(f) => head::accepted(head, f, found),
-        Read::Refused(refusal) => head::refused(head, refusal),
+        Ok(f) => head::accepted(head, f, found),
+        Err(refusal) => head::refused(head, refusal),
     }
 }

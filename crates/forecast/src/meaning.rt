@@ -5,21 +5,20 @@ use crate::amounts::{All, Plain, parts_of};
 use crate::{names, needs};
 use costs::counts::Counts;
 use forecasting::lines::Foreseen;
+use refusals::Refusal;
 use report::text::{line, put};
-use script::command::Decoded;
 use script::decode;
 use sheet::frame::Frame;
 
 pub fn explain(f: Frame, script: &[u8], found: Foreseen)
     requires { (f.l ≤ 31) × (f.largest ≤ 30) }
 {
-    let refusal = found.number;
-    match refusal {
-        0 => comes_to_end(f, found.spent.counts),
-        9 => no_command(script, found.place),
-        10 => no_end(f, script, found.place),
-        11 => out_of_range(script, found.place),
-        _ => needs::missing(f, script, found),
+    match found.ended {
+        Ok(()) => comes_to_end(f, found.spent.counts),
+        Err(Refusal::BadCommand) => no_command(script, found.place),
+        Err(Refusal::BadEnd) => no_end(f, script, found.place),
+        Err(Refusal::OutOfRange) => out_of_range(script, found.place),
+        Err(_) => needs::missing(f, script, found),
     }
 }
 
@@ -40,12 +39,10 @@ fn no_command(script: &[u8], at: usize) {
 #[tactic(auto, using(script::proofs::Lines::closer))]
 fn stops_at(f: Frame, script: &[u8]) -> usize {
     let mut at = 0;
-    loop {
-        let Decoded::Command(_, next) = decode::decode(f.p, f.largest, script, at) else {
-            return at;
-        };
-        at = next;
+    while let Ok(Some(line)) = decode::decode(f.p, f.largest, script, at) {
+        at = line.next;
     }
+    at
 }
 
 // No END, operands cut off, or bytes after END, whose place is not where reading stops.

@@ -12,8 +12,8 @@ use costs::counts::Counts;
 use costs::spent::Spent;
 use forecasting::lines;
 use forecasting::lines::Foreseen;
+use refusals::Refusal;
 use report::text::{line, put};
-use script::command::Decoded;
 use script::decode;
 use sheet::frame::Frame;
 
@@ -38,13 +38,13 @@ pub fn missing(f: Frame, script: &[u8], found: Foreseen)
     requires { (f.l ≤ 31) × (f.largest ≤ 30) }
 {
     let at = found.place;
-    let Decoded::Command(c, _) = decode::decode(f.p, f.largest, script, at) else {
+    let Ok(Some(line)) = decode::decode(f.p, f.largest, script, at) else {
         return;
     };
-    let need = cost::cost_of(f, c);
+    let need = cost::cost_of(f, line.command);
     let spent = found.spent;
     put(names::command(script, at));
-    if found.number == 21 {
+    if found.ended == Err(Refusal::Unset) {
         unset(spent, need);
     } else {
         too_few(there(f), spent.counts, need.counts);
@@ -109,7 +109,7 @@ fn whole_script(f: Frame, script: &[u8])
         revealed: usize::MAX,
     };
     let found = lines::foresee_script(f, script, plenty);
-    if found.number == 0 {
+    if found.ended.is_ok() {
         let spent = found.spent.counts;
         let more = if over_limits(spent) {
             ", more than a header may count"

@@ -4,5 +4,5 @@ use Rattle.std.proofs.Common.{rules}
 use Rattle.script.proofs.Lines.{closer}
 use Rattle.forecast.proofs.meaning.stops_at.Goals as goal
 
-pub loop-next-smaller : goal.loop-next-smaller
-loop-next-smaller c = search (rules, closer)
+pub loop-line-smaller : goal.loop-line-smaller
+loop-line-smaller c = search (rules, closer)

@@ -3,5 +3,5 @@
 use Rattle.std.proofs.Common.{◌-◌, length}
 use Rattle.forecast.proofs.meaning.stops_at.Given as goal
 
-abbrev pub decreases-loop-next : goal.decreases-loop-next
-decreases-loop-next l = length l.script - l.at
+abbrev pub decreases-loop-line : goal.decreases-loop-line
+decreases-loop-line l = length l.script - l.at

@@ -2,7 +2,7 @@
 -- Assumes nothing.
 use Rattle.std.proofs.Common.{◌≡◌}
 use Rattle.algebra.specs.Lists.{from}
-use Rattle.costs.proofs.Marks.{rest}
+use Rattle.forecast.proofs.Registers.{rest}
 use Rattle.forecast.specs.Unset.{first_unset}
 use Rattle.forecast.proofs.needs.first_unset.Given as goal
 
