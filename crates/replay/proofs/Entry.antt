@@ -1,48 +1,46 @@
 -- The entry by the tests before the run, and the lines after them.
 -- Assumes nothing.
 use mathlib.Core.Path.{◌≡◌, refl, sym, ap, ◌∙◌}
-use mathlib.Core.Logic.{◌≢◌, inl, inr}
+use mathlib.Core.Logic.{◌≢◌, ◌⊎◌, inl, inr}
 use mathlib.Core.Bool.{Bool, true, false, ◌&&◌}
 use mathlib.Core.List.{List, [], ◌∷◌, ◌++◌}
 use Prim.Native.Nat.{ℕ, zero, suc, ◌+◌, ◌*◌, ◌≤◌, ◌<◌}
 use native.Mathlib.Omega.{arith}
-use lib.Dec.{T, leb, ltb, leb→le, le→leb}
-use lib.ListN.{length, take, replicate}
+use borrow.Author.Tests.{eq-eqb, ne_eqb}
+use lib.Dec.{leb, ltb, leb→le, le→leb}
+use lib.ListN.{length, get_or, take}
 use Rattle.algebra.specs.Lists.{all_below}
 use Rattle.algebra.specs.Rows.{tab, row}
-use Rattle.algebra.proofs.Lists.{all_below_lem}
 use Rattle.algebra.proofs.Rows.{tab_ext}
-use Rattle.algebra.proofs.Tests.{and_left, and_right, and_both, is_true, is_false, true_false}
+use Rattle.algebra.proofs.Tests.{and_left, and_right, and_both, is_true, is_false}
+use Rattle.refusals.specs.declared.Refusal.{Refusal}
+use Rattle.refusals.specs.declared.Refused.{Refused}
+use Rattle.refusals.specs.Numbers.{number_of}
+use Rattle.refusals.proofs.Numbers.{numbered as no_refusal}
 use Rattle.model.specs.Bytes.{number, row_at}
 use Rattle.model.specs.Fields.{modulus}
 use Rattle.model.specs.Refusing.{first_failed}
 use Rattle.model.specs.Run.{sheet_script}
 use Rattle.model.specs.Script.{Script, accepted, refused, script_of}
-use Rattle.model.specs.Sheet.{Header, header_of, header_size, inputs_at, row_count, rows_at, all, limits, header_tests, limit_tests}
+use Rattle.model.specs.Sheet.{Header, header_of, header_size, inputs_at, row_count, rows_at, all, header_tests, limit_tests}
 use Rattle.model.specs.Columns.{part_length, shares_in}
-use Rattle.model.specs.Replay.{part_input, part_deal, nothing_replayed, replayed_by, replay_script, replay}
+use Rattle.model.specs.Forecast.{head_length_tests}
+use Rattle.model.specs.Replay.{Replayed, part_input, part_deal, party_tests, part_length_tests, own_share_tests, replay_tests, nothing_replayed, replayed_by, replay_script, replay}
 use Rattle.model.specs.Replays.{ReplayReady}
 use Rattle.model.proofs.ReplayTests.{ready, before}
-use Rattle.model.proofs.Trying.{numbered, others_decide, others_pass}
+use Rattle.model.proofs.Trying.{numbered, passes, fails, nothing_left, others_decide, others_pass, given_refused}
 use Rattle.model.proofs.Refusals.{script_late}
 use Rattle.model.proofs.Lengths.{header_field, header_numbered}
 use Rattle.sheet.specs.declared.frame.Frame.{Frame}
+use Rattle.sheet.specs.declared.header.Header as Code
 use Rattle.sheet.specs.Framed.{Headed}
-use Rattle.sheet.specs.declared.header.Read.{Read}
-use Rattle.sheet.specs.declared.header.Read.TheVariants.{Sheet, Refused}
-use Rattle.sheet.specs.Reading.{Reads}
-use Rattle.sheet.proofs.Answers.{header_long}
+use Rattle.sheet.specs.Reading.{numbers_of}
+use Rattle.sheet.proofs.Answers.{refused_first, passed_first, header_long}
 use Rattle.sheet.proofs.Headers.{bits_in, mask_rows_in}
 use Rattle.sheet.proofs.Scripts.{script_part, script_read}
 use Rattle.script.specs.Meaning.{script_number, script_place}
-use Rattle.model.specs.Counts.{no_counts}
-use Rattle.model.specs.Counts as Paper
-use Rattle.costs.specs.declared.counts.Counts.{Counts}
-use Rattle.costs.specs.Costing.{counts_of}
 use Rattle.column_commands.specs.declared.own.Own.{Own}
-use Rattle.replay.specs.declared.Answer.{Answer}
 use Rattle.replay.specs.declared.lines.Stopped.{Stopped}
-use Rattle.replay.specs.Answers.{answer_of}
 use Rattle.replay.specs.Lines.{Prepared, ended_of, script_replayed, lines_replayed}
 use Rattle.replay.specs.Owning.{Framing, OwnFor}
 
@@ -65,102 +63,122 @@ below_rows p part i (suc count) =
     further : (j : ℕ) → i + 4 * 1 + 4 * j ≡ i + 4 * suc j
     further j = omega arith
 
-module _ (j : ℕ) (head part log : List ℕ) where
+-- the tests before the run, in their order: after 1, 2 and 3
+pub record Seated (j : ℕ) (head : List ℕ) : Type 0 where
+  pub header : 0 ≡ first_failed (header_tests head)
+  pub least : 1 ≤ j
+  pub most : j ≤ (header_of head).n
+
+module _ (j : ℕ) (head : List ℕ) where
   abbrev h : Header
   h = header_of head
 
-  -- the answer is the definition's
-  abbrev Answers : Answer → Type 0
-  Answers r = answer_of r ≡ replay j head part log
+  module _ (part : List ℕ) where
+    pub header_refused : (r : Refusal) → number_of r ≡ first_failed (header_tests head) → number_of r ≡ first_failed (replay_tests j head part)
+    unfolding replay_tests
+    header_refused r e = refused_first (header_tests head) _ r e
 
-  pub header_refused : {n : ℕ} {r : Answer} → n ≡ first_failed (header_tests head) → n ≢ 0 → answer_of r ≡ nothing_replayed n 0 → Answers r
-  header_refused e z q = q ∙ rw e (sym ((before j head part log).header_first (λ y. z (e ∙ y))))
+    pub party_out : {code : Code.Header} → 0 ≡ first_failed (header_tests head) → numbers_of code ≡ header_of head → (j < 1) ⊎ ((1 ≤ j) × (code.n < j))
+        → 3 ≡ first_failed (replay_tests j head part)
+    unfolding replay_tests party_tests
+    party_out {code} e q w = passed_first (header_tests head) _ (header_numbered head) e (fails 3 _ (outside w))
+      where
+        outside : (j < 1) ⊎ ((1 ≤ j) × (code.n < j)) → (leb 1 j && leb j h.n) ≡ false
+        outside (inl l) = is_false _ (λ t. omega (arith, l, leb→le 1 j (and_left (leb 1 j) (leb j h.n) t)))
+        outside (inr l) =
+            is_false _ (λ t. omega (arith, l, ap (λ (x : Header). x.n) q, leb→le j h.n (and_right (leb 1 j) (leb j h.n) t)))
 
-  pub party_in : {n : ℕ} {b : Bool} → n ≡ first_failed (header_tests head) → n ≡ 0 → b ≡ (leb 1 j && leb j h.n) → b ≡ true
-      → (first_failed (header_tests head) ≡ 0) × (1 ≤ j) × (j ≤ h.n)
-  party_in e z q t =
-      let y : T (leb 1 j && leb j h.n) = rw (sym q ∙ t) tt in
-      (sym e ∙ z, leb→le 1 j (and_left (leb 1 j) (leb j h.n) y), leb→le j h.n (and_right (leb 1 j) (leb j h.n) y))
+  pub seated : {code : Code.Header} → 0 ≡ first_failed (header_tests head) → numbers_of code ≡ header_of head → 1 ≤ j → j ≤ code.n → Seated j head
+  seated e q least most = record { header = e; least = least; most = omega (arith, most, ap (λ (x : Header). x.n) q) }
 
-  pub party_out : {n : ℕ} {b : Bool} {r : Answer} → n ≡ first_failed (header_tests head) → n ≡ 0 → b ≡ (leb 1 j && leb j h.n) → b ≡ false → answer_of r ≡ nothing_replayed 3 0 → Answers r
-  party_out e z q t a =
-      a ∙ sym ((before j head part log).party_next (sym e ∙ z) (λ k. true_false (sym (is_true _ (and_both (leb 1 j) (leb j h.n) (le→leb 1 j k.0) (le→leb j h.n k.1))) ∙ (sym q ∙ t))))
+  module _ (part : List ℕ) (S : Seated j head) where
+    party_in : {n : ℕ} (xs : List (Bool × ℕ)) → n ≡ first_failed xs → n ≡ first_failed (header_tests head ++ (party_tests h j ++ xs))
+    unfolding party_tests
+    party_in xs k =
+        passed_first (header_tests head) _ (header_numbered head) S.header
+        (passes 3 _ (is_true _ (and_both (leb 1 j) (leb j h.n) (le→leb 1 j S.least) (le→leb j h.n S.most))) k)
 
-  pub long : {n : ℕ} → n ≡ first_failed (header_tests head) → n ≡ 0 → 11 ≤ length head
-  unfolding header_size
-  long e z = header_long head e z
+    pub count_refused : (r : Refusal) → number_of r ≡ first_failed (header_tests head ++ limit_tests (header_of head)) → number_of r ≡ first_failed (replay_tests j head part)
+    unfolding replay_tests
+    count_refused r k =
+        party_in _ (refused_first (limit_tests h) _ r (k ∙ sym (others_decide (header_tests head) (limit_tests h) (header_numbered head) S.header refl refl)))
 
-  module _ (pre : (first_failed (header_tests head) ≡ 0) × (1 ≤ j) × (j ≤ h.n)) where
-    module _ {x : Read} (A : Reads (header_tests head ++ limit_tests h) (Headed h) x) where
-      pub count_refused : {n : ℕ} {r : Answer} → x ≡ Refused n → answer_of r ≡ nothing_replayed n 0 → Answers r
-      unfolding limit_tests numbered first_failed
-      count_refused {n} q a =
-          let B : Reads (header_tests head ++ limit_tests h) (Headed h) (Refused n) = rw q at A in
-          let e : n ≡ first_failed (limit_tests h) = B.0 ∙ sym (others_decide (header_tests head) (limit_tests h) (header_numbered head) refl pre.0 refl) in
-          let four : n ≡ 4 = is_four (limits h) e B.1 in
-          a ∙ rw four (sym ((before j head part log).lengths_next pre.0 (pre.1, pre.2) (inl (λ y. omega (arith, e ∙ y, B.1)))))
-        where
-          is_four : (b : Bool) → n ≡ first_failed ((b, 4) ∷ []) → 0 < n → n ≡ 4
-          is_four true e z = absurd (omega (arith, e))
-          is_four false e z = e
+    module _ {f : Frame} (F : (0 ≡ first_failed (header_tests head ++ limit_tests (header_of head))) × Headed (header_of head) f) where
+      abbrev H : Headed h f
+      H = F.1
 
-      pub counts_in : {f : Frame} → x ≡ Sheet f → (first_failed (limit_tests h) ≡ 0) × Headed h f
-      counts_in {f} q =
-          let B : Reads (header_tests head ++ limit_tests h) (Headed h) (Sheet f) = rw q at A in
-          (others_pass (header_tests head) (limit_tests h) (header_numbered head) (sym B.0), B.1)
+      lengths : {n : ℕ} → n ≡ first_failed (head_length_tests h head ++ (part_length_tests h part ++ own_share_tests h part)) → n ≡ first_failed (replay_tests j head part)
+      unfolding replay_tests limit_tests numbered
+      lengths k = party_in _ (passed_first (limit_tests h) _ tt (sym (others_pass (header_tests head) (limit_tests h) (header_numbered head) (sym F.0))) k)
 
-    module _ (limit : first_failed (limit_tests h) ≡ 0) {f : Frame} (H : Headed h f) where
-      head_is : length head ≡ f.input → length head ≡ inputs_at h
-      head_is e = omega (arith, e, H.inputs_place, H.script_is)
+      pub head_wrong : length head ≢ f.input → 4 ≡ first_failed (replay_tests j head part)
+      unfolding head_length_tests
+      head_wrong z = lengths (fails 4 _ (ne_eqb (length head) (inputs_at h) (λ e. z (omega (arith, e, H.inputs_place, H.script_is)))))
 
-      rows_are : {rows : ℕ} → rows ≡ f.inputs + f.l * f.masks + 3 * f.triples → 4 * rows ≡ part_length h
-      rows_are e = rw (e, H.inputs_is, H.l_is, H.masks_is, H.triples_is) (omega arith)
-
-      pub head_wrong : {r : Answer} → length head ≢ f.input → answer_of r ≡ nothing_replayed 4 0 → Answers r
-      head_wrong z a =
-          a ∙ sym ((before j head part log).lengths_next pre.0 (pre.1, pre.2) (inr (inl (λ e. z (omega (arith, e, H.inputs_place, H.script_is))))))
-
-      pub part_wrong : {rows : ℕ} {r : Answer} → rows ≡ f.inputs + f.l * f.masks + 3 * f.triples → length part ≢ 4 * rows → answer_of r ≡ nothing_replayed 4 0 → Answers r
-      part_wrong e z a =
-          a ∙ sym ((before j head part log).lengths_next pre.0 (pre.1, pre.2) (inr (inr (λ q. z (q ∙ sym (rows_are e))))))
-
-      module _ {rows : ℕ} (er : rows ≡ f.inputs + f.l * f.masks + 3 * f.triples) (eh : length head ≡ f.input) (ep : length part ≡ 4 * rows) {b : Bool}
-          (t : b ≡ all (λ x. all_below f.p (take 1 x)) (rows_at part 1 0 rows)) where
+      module _ (whole : length head ≡ f.input) {rows : ℕ} (count : rows ≡ f.inputs + f.l * f.masks + 3 * f.triples) where
         count_is : rows ≡ row_count h
-        count_is = er ∙ rw (H.inputs_is, H.l_is, H.masks_is, H.triples_is) (omega arith)
+        count_is = count ∙ rw (H.inputs_is, H.l_is, H.masks_is, H.triples_is) (omega arith)
 
-        shares_are : b ≡ all_below (modulus h.field) (shares_in h part)
+        rows_are : 4 * rows ≡ part_length h
+        rows_are = rw (count, H.inputs_is, H.l_is, H.masks_is, H.triples_is) (omega arith)
+
+        part_next : {n : ℕ} → n ≡ first_failed (part_length_tests h part ++ own_share_tests h part) → n ≡ first_failed (replay_tests j head part)
+        unfolding head_length_tests
+        part_next k = lengths (passes 4 _ (eq-eqb (length head) (inputs_at h) (omega (arith, whole, H.inputs_place, H.script_is))) k)
+
+        pub part_wrong : length part ≢ 4 * rows → 4 ≡ first_failed (replay_tests j head part)
+        unfolding part_length_tests
+        part_wrong z = part_next (fails 4 _ (ne_eqb (length part) (part_length h) (λ e. z (e ∙ sym rows_are))))
+
+        shares_are : {b : Bool} → b ≡ all (λ x. all_below f.p (take 1 x)) (rows_at part 1 0 rows) → all_below (modulus h.field) (shares_in h part) ≡ b
         unfolding shares_in
-        shares_are = t ∙ below_rows f.p part 0 rows ∙ rw (count_is, H.p_is) (ap (all_below (modulus h.field)) (tab_ext (row_count h) _ _ (λ i _. ap (number 4 part) (none i))))
+        shares_are t =
+            sym (t ∙ below_rows f.p part 0 rows ∙ rw (count_is, H.p_is) (ap (all_below (modulus h.field)) (tab_ext (row_count h) _ _ (λ i _. ap (number 4 part) (none i)))))
           where
             none : (i : ℕ) → 0 + 4 * i ≡ 4 * i
             none i = omega arith
 
-        pub shares_wrong : {r : Answer} → b ≡ false → answer_of r ≡ nothing_replayed 5 0 → Answers r
-        shares_wrong z a =
-            a ∙ sym ((before j head part log).shares_next pre.0 (pre.1, pre.2) limit (head_is eh) (ep ∙ rows_are er)
-            (λ B. true_false (sym (is_true _ ((all_below_lem _ _).1 B)) ∙ (sym shares_are ∙ z))))
+        module _ (long : length part ≡ 4 * rows) where
+          after_length : {n : ℕ} → n ≡ first_failed (own_share_tests h part) → n ≡ first_failed (replay_tests j head part)
+          unfolding part_length_tests
+          after_length k = part_next (passes 4 _ (eq-eqb (length part) (part_length h) (long ∙ rows_are)) k)
 
-        pub all_ready : b ≡ true → ReplayReady j head part
-        all_ready z =
-            record {
-              header = pre.0;
-              party = (pre.1, pre.2);
-              limits = limit;
-              head_length = head_is eh;
-              part_length = ep ∙ rows_are er;
-              shares = (all_below_lem _ _).0 (rw (sym shares_are ∙ z) tt);
-            }
+          pub shares_wrong : false ≡ all (λ x. all_below f.p (take 1 x)) (rows_at part 1 0 rows) → 5 ≡ first_failed (replay_tests j head part)
+          unfolding own_share_tests
+          shares_wrong t = after_length (fails 5 _ (shares_are t))
+
+          pub shares_right : true ≡ all (λ x. all_below f.p (take 1 x)) (rows_at part 1 0 rows) → 0 ≡ first_failed (replay_tests j head part)
+          unfolding own_share_tests
+          shares_right t = after_length (passes 5 _ (shares_are t) nothing_left)
+
+-- after 1 to 5
+pub replay_refused : (j : ℕ) (head part log : List ℕ) (r : Refusal) {a : Replayed} → number_of r ≡ first_failed (replay_tests j head part) → a ≡ nothing_replayed (number_of r) 0
+    → a ≡ replay j head part log
+unfolding replay
+replay_refused j head part log r e q = q ∙ rw (← e) (sym (given_refused (number_of r) _ _ (λ z. omega (arith, no_refusal r, z))))
+
+pub all_ready : (j : ℕ) (head part : List ℕ) → 0 ≡ first_failed (replay_tests j head part) → ReplayReady j head part
+all_ready j head part e = (ready j head part).1 (sym e)
 
 -- the script, and the lines
 module _ (j : ℕ) (head part log : List ℕ) (R : ReplayReady j head part) {f : Frame} (H : Headed (header_of head) f) where
-  pub script_refused : {n place : ℕ} {r : Answer} → (n ≡ script_number (script_of f.p f.largest (script_part head f))) × (place ≡ script_place (script_of f.p f.largest (script_part head f))) → n ≢ 0
-      → answer_of r ≡ nothing_replayed n place → answer_of r ≡ replay j head part log
-  script_refused {n} {place} e z a = a ∙ go (sheet_script head) refl (e.0 ∙ rw (script_read head H)) (e.1 ∙ rw (script_read head H))
+  pub script_refused : (x : Refused) {r : Replayed} → number_of x.refusal ≡ script_number (script_of f.p f.largest (script_part head f))
+      → x.place ≡ script_place (script_of f.p f.largest (script_part head f)) → r ≡ nothing_replayed (number_of x.refusal) x.place → r ≡ replay j head part log
+  script_refused x en ep a = a ∙ go (sheet_script head) refl (en ∙ rw (script_read head H)) (ep ∙ rw (script_read head H))
     where
-      go : (x : Script) → sheet_script head ≡ x → n ≡ script_number x → place ≡ script_place x → nothing_replayed n place ≡ replay j head part log
-      go (accepted xs end) q en ep = absurd (z en)
+      go : (y : Script) → sheet_script head ≡ y → number_of x.refusal ≡ script_number y → x.place ≡ script_place y
+          → nothing_replayed (number_of x.refusal) x.place ≡ replay j head part log
+      go (accepted xs end) q en ep = absurd (omega (arith, no_refusal x.refusal, en))
       go (refused c i) q en ep = rw (en, ep) (sym ((before j head part log).script_next c i R q))
+
+  -- the header's first byte, its field
+  pub byte_there : 0 < length head
+  unfolding header_size
+  byte_there = omega (arith, header_long head (sym R.header))
+
+  pub field_is : {field : ℕ} → field ≡ get_or head 0 0 → field ≡ (header_of head).field
+  unfolding header_of
+  field_is e = e
 
   pub framing : {field : ℕ} → field ≡ (header_of head).field → Framing f field j
   framing e =
@@ -203,17 +221,6 @@ module _ (j : ℕ) (head part log : List ℕ) (R : ReplayReady j head part) {f :
         let C = O.column in
         rw ((ready j head part).0 R, q, C.p_is, C.l_is, C.n_is, C.t_is, C.party_is, O.inputs_is, O.mask_is, O.triple_is, H.p_is, H.l_is, H.n_is, H.t_is, H.inputs_is, H.masks_is, H.triples_is)
 
-    pub lines_answer : (st : Stopped) {r : Answer} → script_number (script_of f.p f.largest script) ≡ 0 → ended_of st ≡ lines_replayed o f script part log
-        → answer_of r ≡ replayed_by (ended_of st) → answer_of r ≡ replay j head part log
+    pub lines_answer : (st : Stopped) {r : Replayed} → script_number (script_of f.p f.largest script) ≡ 0 → ended_of st ≡ lines_replayed o f script part log
+        → r ≡ replayed_by (ended_of st) → r ≡ replay j head part log
     lines_answer st z e a = a ∙ ap replayed_by e ∙ same_lines (script_of f.p f.largest script) z (sym script_same)
-
--- no cell and no count
-pub nothing_is : (n place : ℕ) {k : Counts} → counts_of k ≡ no_counts → answer_of (record { number = n; place = place; cells = replicate 64 0; counts = k }) ≡ nothing_replayed n place
-nothing_is n place e = ap (λ (x : Paper.Counts). record { number = n; place = place; cells = replicate 64 0; counts = x }) e
-
--- "a party number not from 1 to n"
-pub none_seated : (j n : ℕ) → j < 1 → false ≡ (leb 1 j && leb j n)
-none_seated j n h = sym (rw (is_false (leb 1 j) (λ t. omega (arith, leb→le 1 j t))) refl)
-
-pub some_seated : (j n m : ℕ) → 1 ≤ j → m ≡ n → leb j m ≡ (leb 1 j && leb j n)
-some_seated j n m h e = rw (is_true (leb 1 j) (le→leb 1 j h), e)

@@ -1,5 +1,6 @@
 -- The loop over a script's lines on one column: at each place the lines that are left stand from there on, and the replay goes on from there.
 -- Assumes nothing.
+use Rattle.std.specs.Prelude.{Option, Some, Result, Ok, Err}
 use mathlib.Core.Path.{◌≡◌, refl, sym, ap, subst, ◌∙◌}
 use mathlib.Core.Logic.{◌≢◌}
 use mathlib.Core.List.{List, ◌∷◌}
@@ -8,31 +9,30 @@ use native.Mathlib.Nat.{mul-le-mul_right}
 use native.Mathlib.Omega.{arith}
 use lib.Dec.{T}
 use lib.ListN.{length, replicate}
+use Rattle.refusals.specs.declared.Refusal.{Refusal}
+use Rattle.refusals.specs.declared.Refused.{Refused}
+use Rattle.refusals.specs.Numbers.{number_of}
+use Rattle.refusals.proofs.Numbers.{numbered}
 use Rattle.model.specs.Bytes.{sevens}
 use Rattle.model.specs.Checks as Checks
 use Rattle.model.specs.Commands.{Ended}
 use Rattle.model.specs.Costs.{cost_by, cost, mod_triples}
 use Rattle.model.specs.Costs as PaperCosts
-use Rattle.model.specs.Counts as Paper
 use Rattle.model.specs.Deal.{Row, Deal, no_row}
-use Rattle.model.specs.Refusing.{given}
-use Rattle.model.specs.Run.{nothing_spent, row_command}
+use Rattle.model.specs.Run.{nothing_spent}
+use Rattle.model.specs.Script as Paper_script
 use Rattle.model.specs.Script.{Script, Line, accepted, refused, reading_at, script_of, in_ranges}
 use Rattle.model.specs.Sheet.{rows_at}
-use Rattle.model.specs.Trees.{done}
-use Rattle.model.specs.Replay.{stopped, finished, by_record, replay_lines}
+use Rattle.model.specs.Replay.{replay_lines}
 use Rattle.model.specs.Replays.{ByLines}
 use Rattle.model.proofs.Checks.{Passed, check_passed}
 use Rattle.model.proofs.ReplayTests.{by_lines}
-use Rattle.model.proofs.Trying.{given_done, given_refused}
 use Rattle.model.proofs.WholeScript.{from}
 use Rattle.model.proofs.Refusals.{script_late}
 use Rattle.sheet.specs.declared.frame.Frame.{Frame}
 use Rattle.sheet.specs.Framed.{setting_in}
-use Rattle.script.specs.declared.command.Command.{Command}
-use Rattle.script.specs.declared.command.Decoded.{Decoded}
-use Rattle.script.specs.declared.command.Decoded.TheVariants.{Command as Found, Ends}
-use Rattle.script.specs.Meaning.{meant, standing, standing_of, end_number, script_number}
+use Rattle.script.specs.declared.command.Line as Code
+use Rattle.script.specs.Meaning.{meant, standing, standing_of, script_number}
 use Rattle.script.proofs.Lines.{ends_here, in_range_lem, line_first, others_left}
 use Rattle.script.proofs.Lines as Lines
 use Rattle.costs.specs.declared.counts.Counts.{Counts}
@@ -41,9 +41,9 @@ use Rattle.costs.specs.declared.spent.Spent.{Spent}
 use Rattle.costs.specs.Costing.{counts_of, cost_of, spent_of, Costs, Within, Summing, Supplied, Checkable, supply_in}
 use Rattle.costs.proofs.Attempts.{Words, Numbers, Tried, nothing_within, costable, checkable, number_is, summing, paid_within}
 use Rattle.registers.specs.declared.table.Table.{Table}
-use Rattle.column_steps.specs.Reads.{table_of, own_of, deal_from, record_from}
+use Rattle.column_steps.specs.Reads.{table_of, deal_from, record_from}
 use Rattle.column_commands.specs.declared.own.Own.{Own}
-use Rattle.column_commands.specs.Does.{ahead_of, price_of, Ready, Does}
+use Rattle.column_commands.specs.Does.{ahead_of, price_of, Ready, Finishes, Refuses}
 use Rattle.replay.specs.Lines.{Prepared, ended_of, script_replayed, lines_replayed}
 
 -- the lines from what was spent and the cells on
@@ -117,23 +117,30 @@ module _ {o : Own} {f : Frame} {script part : List ℕ} (P : Prepared o f script
   triples_fit x h = rw P.triple_is (omega (arith, P.part_is))
 
 module _ {o : Own} {f : Frame} {script part log : List ℕ} {supply : Counts} {t : Table} {at : ℕ} (G : Going o f script part log supply t at) where
-  module _ {d : Decoded} (e : standing_of d ≡ standing (reading_at f.p f.largest script at) (length script) at) where
+  -- the replay ends here like this
+  abbrev EndsHere : Result (Unit {0}) Refusal → Type 0
+  EndsHere ended = ended_of (record { ended = ended; place = at; table = t }) ≡ lines_replayed o f script part log
+
+  module _ {d : Result (Option Code.Line) Refused} (e : standing_of at d ≡ standing (reading_at f.p f.largest script at) (length script) at) where
     -- where no command stands
-    pub ended : {number place n : ℕ} → d ≡ Ends number place → n ≡ end_number d → ended_of (record { number = n; place = at; table = t }) ≡ lines_replayed o f script part log
-    ended q en =
-        let z = ends_here f.p f.largest script at G.left e q en in
+    pub ended : ((line : Code.Line) → d ≡ Ok (Some line) → ⊥) → EndsHere (Ok tt)
+    ended never =
+        let z = ends_here f.p f.largest script at G.left e never in
         let L = (by_lines (table_of o.column) o.column.reader.party (supply_in f 10850 511) (rows_at part 1 0 o.inputs) G.end (spent_of t.spent) (sevens 64 t.cells) _ _).at_end in
-        rw (z.2, ← z.1) (sym L ∙ rw z.0 at G.goes_on)
+        rw (← z.1) (sym L ∙ rw z.0 at G.goes_on)
 
     -- a command
-    module _ {c : Command} {next : ℕ} (q : d ≡ Found c next) where
-      pub closer : length script - next < length script - at
+    module _ {line : Code.Line} (q : d ≡ Ok (Some line)) where
+      abbrev c : Paper_script.Command
+      c = meant line.command
+
+      pub closer : length script - line.next < length script - at
       closer = Lines.closer f.p f.largest script at e q
 
       abbrev others : List Line
       others = Lines.others f.p f.largest script at G.left e q
 
-      tried : Tried f (supply_in f 10850 511) supply t.spent (meant c)
+      tried : Tried f (supply_in f 10850 511) supply t.spent c
       tried =
           record {
             bits = omega (arith, G.prepared.field.k_is, G.prepared.field.k_most);
@@ -144,16 +151,16 @@ module _ {o : Own} {f : Frame} {script part log : List ℕ} {supply : Counts} {t
             within = G.within;
           }
 
-      pub costed : (f.l ≤ 31) × (f.largest ≤ 30) × T (in_ranges f.p f.largest (meant c))
+      pub costed : (f.l ≤ 31) × (f.largest ≤ 30) × T (in_ranges f.p f.largest c)
       costed = costable tried
 
       -- the line comes first
-      here : gone_over o f part log G.end (record { place = at; command = meant c } ∷ others) (spent_of t.spent) t.cells ≡ lines_replayed o f script part log
+      here : gone_over o f part log G.end (record { place = at; command = c } ∷ others) (spent_of t.spent) t.cells ≡ lines_replayed o f script part log
       here = rw (line_first f.p f.largest script at G.left e q) at G.goes_on
 
       -- what it costs, by the column and by the frame
-      price : cost (setting_in f) (meant c) ≡ cost (table_of o.column) (meant c)
-      price = ap (λ (l : ℕ). cost_by (mod_triples l) (meant c)) (sym G.prepared.l_is)
+      price : cost (setting_in f) c ≡ cost (table_of o.column) c
+      price = ap (λ (l : ℕ). cost_by (mod_triples l) c) (sym G.prepared.l_is)
 
       abbrev left_deal : Deal
       left_deal = deal_from o.column part (ahead_of o (counts_of t.spent.counts)) (f.masks - t.spent.counts.masks) (f.triples - t.spent.counts.triples)
@@ -162,88 +169,85 @@ module _ {o : Own} {f : Frame} {script part log : List ℕ} {supply : Counts} {t
           left_deal (record_from o.column log t.spent.counts.openings)
       line_by = by_lines _ _ _ _ _ _ _ _ _
 
-      module _ {need : Cost} (N : Costs need (cost (setting_in f) (meant c))) where
+      module _ {need : Cost} (N : Costs need (cost (setting_in f) c)) where
         pub checked : Checkable t.spent supply need
         checked = checkable tried N
 
-        module _ {number : ℕ} (E : Numbers supply need t.spent number) where
-          same : number ≡ Checks.check (supply_in f 10850 511) (cost (table_of o.column) (meant c)) (spent_of t.spent)
-          same = number_is tried N E ∙ rw price
+        same : {number : ℕ} → Numbers supply need t.spent number → number ≡ Checks.check (supply_in f 10850 511) (cost (table_of o.column) c) (spent_of t.spent)
+        same E = number_is tried N E ∙ rw price
 
-          pub refused_here : number ≢ 0 → ended_of (record { number = number; place = at; table = t }) ≡ lines_replayed o f script part log
-          refused_here z = rw same (sym (line_by.refused_before (record { place = at; command = meant c }) others (λ q. z (same ∙ q))) ∙ here)
+        pub refused_here : (r : Refusal) → Numbers supply need t.spent (number_of r) → EndsHere (Err r)
+        refused_here r E =
+            let z : number_of r ≢ 0 = λ e. omega (arith, numbered r) in
+            rw (same E) (sym (line_by.refused_before (record { place = at; command = c }) others (λ q. z (same E ∙ q))) ∙ here)
 
-          module _ (z : number ≡ 0) where
-            zero_check : Checks.check (supply_in f 10850 511) (cost (table_of o.column) (meant c)) (spent_of t.spent) ≡ 0
-            zero_check = sym same ∙ z
+        module _ (E : Numbers supply need t.spent 0) where
+          zero_check : Checks.check (supply_in f 10850 511) (cost (table_of o.column) c) (spent_of t.spent) ≡ 0
+          zero_check = sym (same E)
 
-            let_through : Passed (supply_in f 10850 511) (cost (table_of o.column) (meant c)) (spent_of t.spent)
-            let_through = check_passed (supply_in f 10850 511) (cost (table_of o.column) (meant c)) (spent_of t.spent) zero_check
+          let_through : Passed (supply_in f 10850 511) (cost (table_of o.column) c) (spent_of t.spent)
+          let_through = check_passed (supply_in f 10850 511) (cost (table_of o.column) c) (spent_of t.spent) zero_check
 
-            -- what the command takes is there
-            pub ready_here : Ready o part log (counts_of t.spent.counts) (meant c)
-            ready_here =
-                let P = G.prepared in
-                let K = let_through in
-                record {
-                  working = P.working;
-                  field = rw (P.p_is, P.l_is, P.largest_is) P.field;
-                  ranged = rw (P.p_is, P.largest_is) tried.ranged;
-                  inputs_there = rw P.inputs_is (omega (arith, P.part_is));
-                  loads = rw P.inputs_is K.inputs;
-                  masks = masks_fit P _ K.masks;
-                  triples = triples_fit P _ K.triples;
-                  openings = G.openings;
-                }
+          -- what the command takes is there
+          pub ready_here : Ready o part log (counts_of t.spent.counts) c
+          ready_here =
+              let P = G.prepared in
+              let K = let_through in
+              record {
+                working = P.working;
+                field = rw (P.p_is, P.l_is, P.largest_is) P.field;
+                ranged = rw (P.p_is, P.largest_is) tried.ranged;
+                inputs_there = rw P.inputs_is (omega (arith, P.part_is));
+                loads = rw P.inputs_is K.inputs;
+                masks = masks_fit P _ K.masks;
+                triples = triples_fit P _ K.triples;
+                openings = G.openings;
+              }
 
-            pub payable_here : Summing t.spent.counts need.counts
-            payable_here = summing tried N E z
+          pub payable_here : Summing t.spent.counts need.counts
+          payable_here = summing tried N E refl
 
-            -- its cost paid
-            pays : {s s' : Spent} → s ≡ t.spent → spent_of s' ≡ Checks.pay (cost_of need) (spent_of s) → spent_of s' ≡ Checks.pay (cost (setting_in f) (meant c)) (spent_of t.spent)
-            pays es paid = paid ∙ rw (es, N.is)
+          -- its cost paid
+          pays : {s s' : Spent} → s ≡ t.spent → spent_of s' ≡ Checks.pay (cost_of need) (spent_of s) → spent_of s' ≡ Checks.pay (cost (setting_in f) c) (spent_of t.spent)
+          pays es paid = paid ∙ rw (es, N.is)
 
-            module _ {done-number : ℕ} {cells' : List ℕ} (D : Does o part log (counts_of t.spent.counts) (meant c) t.cells done-number cells') where
-              abbrev M : ℕ
-              M = f.masks - (t.spent.counts.masks + (price_of o (meant c)).masks)
+          -- what the command leaves of masks and triples
+          abbrev M : ℕ
+          M = f.masks - (t.spent.counts.masks + (price_of o c).masks)
 
-              abbrev T' : ℕ
-              T' = f.triples - (t.spent.counts.triples + (price_of o (meant c)).triples)
+          abbrev T' : ℕ
+          T' = f.triples - (t.spent.counts.triples + (price_of o c).triples)
 
-              -- the command's tree on what is left
-              reads : by_record (table_of o.column) o.column.reader.party (row_command (own_of o.column) (rows_at part 1 0 o.inputs) t.spent.counts.inputs (meant c) (sevens 64 t.cells) done)
-                  left_deal (record_from o.column log t.spent.counts.openings)
-                  ≡ given (done-number) (finished (sevens 64 (cells')) (deal_from o.column part (ahead_of o (Paper.added (counts_of t.spent.counts) (price_of o (meant c)))) M T')
-                  (record_from o.column log (t.spent.counts.openings + (price_of o (meant c)).openings))) (stopped (done-number))
-              reads =
-                  let a : (price_of o (meant c)).masks + M ≡ f.masks - t.spent.counts.masks = omega (arith, let_through.masks) in
-                  let b : (price_of o (meant c)).triples + T' ≡ f.triples - t.spent.counts.triples = omega (arith, let_through.triples) in
-                  rw (← a, ← b) (D.reads M T')
+          all_masks : (price_of o c).masks + M ≡ f.masks - t.spent.counts.masks
+          all_masks = omega (arith, let_through.masks)
 
-              pub refused_inside : done-number ≢ 0 → ended_of (record { number = done-number; place = at; table = t }) ≡ lines_replayed o f script part log
-              refused_inside y =
-                  sym (line_by.refused_inside (record { place = at; command = meant c }) others (done-number) zero_check (reads ∙ given_refused (done-number) _ _ y)) ∙ here
+          all_triples : (price_of o c).triples + T' ≡ f.triples - t.spent.counts.triples
+          all_triples = omega (arith, let_through.triples)
 
-              pub goes_next : {t' : Table} {s : Spent} → done-number ≡ 0 → s ≡ t.spent → (t'.cells ≡ cells') × (spent_of t'.spent ≡ Checks.pay (cost_of need) (spent_of s))
-                  → Going o f script part log supply t' next
-              unfolding Checks.pay
-              goes_next {t'} y es paid =
-                  let p' = pays es paid.1 in
-                  let p = p' ∙ ap (λ (x : PaperCosts.Cost). Checks.pay x (spent_of t.spent)) price in
-                  let q = line_by.goes_on (record { place = at; command = meant c }) others _ _ _ zero_check (reads ∙ given_done (done-number) _ _ y) in
-                  record {
-                    prepared = G.prepared;
-                    lines = others;
-                    end = G.end;
-                    left = next_left;
-                    goes_on =
-                        subst (λ (s : Checks.Spent). gone_over o f part log G.end others s t'.cells ≡ lines_replayed o f script part log) (sym p) (rw paid.0 (sym q ∙ here));
-                    supplied = G.supplied;
-                    words = G.words;
-                    within = paid_within tried N E z p';
-                    openings =
-                        subst (λ (s : Checks.Spent). o.column.reader.n * s.counts.openings ≤ length log) (sym p) (D.there y);
-                  }
-                where
-                  next_left : from f.p f.largest script next ≡ accepted others G.end
-                  next_left = others_left f.p f.largest script at G.left e q
+          pub refused_inside : (r : Refusal) → Refuses o part log (counts_of t.spent.counts) c t.cells r → EndsHere (Err r)
+          refused_inside r R =
+              sym (line_by.refused_inside (record { place = at; command = c }) others (number_of r) zero_check (rw (← all_masks, ← all_triples) (R.reads M T'))) ∙ here
+
+          pub goes_next : {done t' : Table} → Finishes o part log (counts_of t.spent.counts) c t.cells done.cells × (done.spent ≡ t.spent)
+              → (t'.cells ≡ done.cells) × (spent_of t'.spent ≡ Checks.pay (cost_of need) (spent_of done.spent)) → Going o f script part log supply t' line.next
+          unfolding Checks.pay
+          goes_next {done} {t'} D paid =
+              let p' : spent_of t'.spent ≡ Checks.pay (cost (setting_in f) c) (spent_of t.spent) = pays D.1 paid.1 in
+              let p = p' ∙ ap (λ (x : PaperCosts.Cost). Checks.pay x (spent_of t.spent)) price in
+              let q = line_by.goes_on (record { place = at; command = c }) others _ _ _ zero_check (rw (← all_masks, ← all_triples) (D.0.reads M T')) in
+              record {
+                prepared = G.prepared;
+                lines = others;
+                end = G.end;
+                left = next_left;
+                goes_on =
+                    subst (λ (s : Checks.Spent). gone_over o f part log G.end others s t'.cells ≡ lines_replayed o f script part log) (sym p) (rw paid.0 (sym q ∙ here));
+                supplied = G.supplied;
+                words = G.words;
+                within = paid_within tried N E refl p';
+                openings =
+                    subst (λ (s : Checks.Spent). o.column.reader.n * s.counts.openings ≤ length log) (sym p) D.0.there;
+              }
+            where
+              next_left : from f.p f.largest script line.next ≡ accepted others G.end
+              next_left = others_left f.p f.largest script at G.left e q

@@ -1,15 +1,15 @@
 -- What a party's column is made of: how a table of one column would be opened, its setting, and its cells.
 -- Assumes nothing.
 use mathlib.Core.Path.{◌≡◌, refl, sym, ap, ◌∙◌}
-use mathlib.Core.List.{List, [], ◌∷◌, append-nil, map}
+use mathlib.Core.List.{List, [], ◌∷◌, map}
 use Prim.Native.Nat.{ℕ, zero, suc, ◌+◌, ◌*◌, ◌%◌, ◌≤◌, ◌<◌}
 use native.Mathlib.Nat.{mod-eq_of_lt}
 use native.Mathlib.Omega.{arith}
-use lib.ListN.{length, get_or, take, drop, drop_of_length-le}
-use lib.Seq.{get_or-drop, take_all}
+use lib.ListN.{length, get_or, take, drop}
+use lib.Seq.{ext_get_or, get_or-drop}
 use Rattle.algebra.specs.Ring.{mul}
-use Rattle.algebra.specs.Lists.{from, onto}
-use Rattle.algebra.proofs.Lists.{Writing, writing_end, below_nil, below_cons}
+use Rattle.algebra.specs.Lists.{from}
+use Rattle.algebra.proofs.Lists.{below_nil, below_cons}
 use Rattle.model.specs.Bytes.{sevens}
 use Rattle.model.specs.Fields.{Modulus, modulus}
 use Rattle.model.proofs.Fields.{fields}
@@ -70,17 +70,10 @@ own_in (suc w) cells (suc r) h =
     let e : 7 * suc r ≡ 7 + 7 * r = omega arith in
     rw e (sym (get_or-drop 7 cells (7 * r) 0) ∙ own_in w (drop 7 cells) r (omega arith))
 
-pub own_at : (cells : List ℕ) (r : ℕ) → r < 64 → get_or cells (7 * r) 0 ≡ get_or (map own_share (sevens 64 cells)) r 0
-own_at cells r h = own_in 64 cells r h
-
-pub own_length : (cells : List ℕ) → 64 ≤ length (map own_share (sevens 64 cells))
-own_length cells = rw (length_own 64 cells) (omega arith)
-
-pub own_end : (cells : List ℕ) {xs l : List ℕ} {j : ℕ} → Writing (map own_share (sevens 64 cells)) xs 64 j l → 64 ≤ j → length xs ≡ 64 → l ≡ map own_share (sevens 64 cells)
-unfolding onto
-own_end cells {xs} W h e =
-    let n = length_own 64 cells in
-    writing_end W h ∙ rw (take_all 64 (map own_share (sevens 64 cells)) (rw n (omega arith)), n, drop_of_length-le xs {i = 64} (omega arith)) (append-nil _)
+pub own_each : (cells own : List ℕ) → length own ≡ 64 → ((r : ℕ) → r < 64 → get_or own r 0 ≡ get_or cells (7 * r) 0) → own ≡ map own_share (sevens 64 cells)
+own_each cells own e each =
+    let n : length own ≡ length (map own_share (sevens 64 cells)) = e ∙ sym (length_own 64 cells) in
+    ext_get_or 0 own (map own_share (sevens 64 cells)) n (λ r h. each r (omega arith) ∙ own_in 64 cells r (omega arith))
 
 -- the column of a frame
 pub framed_modulus : {f : Frame} {field party : ℕ} → Framing f field party → Modulus f.p

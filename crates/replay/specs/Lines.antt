@@ -1,6 +1,7 @@
 -- The lines of a script on one party's column, as the code works them.
 -- Assumes nothing.
 use Rattle.std.specs.Prelude.{◌≡◌, List, ℕ, ◌+◌, ◌*◌, length, replicate}
+use Rattle.refusals.specs.Numbers.{told}
 use Rattle.model.specs.Bytes.{sevens}
 use Rattle.model.specs.Commands.{Ended}
 use Rattle.model.specs.Deal.{Row, no_row}
@@ -32,7 +33,7 @@ pub record Prepared (o : Own) (f : Frame) (script part : List ℕ) : Type 0 wher
 
 -- how a replay ended, as the code has it
 abbrev pub ended_of : Stopped → Ended Row
-ended_of r = record { number = r.number; place = r.place; spent = spent_of r.table.spent; registers = sevens 64 r.table.cells }
+ended_of r = record { number = told r.ended; place = r.place; spent = spent_of r.table.spent; registers = sevens 64 r.table.cells }
 
 -- and as the definition has it, of a script's lines
 abbrev pub script_replayed : Own → Frame → List ℕ → List ℕ → Script → Ended Row

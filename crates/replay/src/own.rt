@@ -73,10 +73,8 @@ pub fn own_cells(cells: [u32; 448]) -> [u32; 64]
     ensures { result ≡ map own_share (Bytes.sevens 64 cells) }
 {
     let mut own = [0u32; 64];
-    let mut r = 0;
-    while r < 64 {
+    for r in 0..64 {
         own[r] = cells[7 * r];
-        r += 1;
     }
     own
 }
