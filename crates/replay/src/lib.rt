@@ -49,7 +49,7 @@ pub fn replay(party: u32, head: &[u8], part: &[u8], log: &[u32]) -> Answer
 fn head_frame(party: u32, head: &[u8], part: &[u8]) -> Result<Frame, Refusal>
     ensures { Reads (Replay.replay_tests party head.now part.now) (Headed (header_of head.now)) result }
 {
-    let h = header::read_numbers(head)?;
+    let h = header::checked_numbers(head)?;
     if party < 1 || h.n < party {
         return Err(Refusal::BadParties);
     }

@@ -1,5 +1,5 @@
 // The header: its numbers, the refusals 1 to 3, 12, and that of its counts, and the frame that it gives.
-ghost use Rattle.std.specs.Prelude.{◌≡◌, ◌++◌};
+ghost use Rattle.std.specs.Prelude.{◌≡◌, ◌++◌, ◌≤◌, length};
 ghost use Rattle.model.specs.Sheet as Sheet;
 ghost use Rattle.model.specs.Fields as Fields;
 ghost use Rattle.model.specs.Presence.{PermittedSet, permitted_set};
@@ -25,14 +25,11 @@ pub struct Header {
     pub script: usize,
 }
 
-// The numbers of a sheet's header, or 1, 2 or 3.
-pub fn read_numbers(s: &[u8]) -> Result<Header, Refusal>
-    ensures { Reads (Sheet.header_tests s.now) (λ h. numbers_of h ≡ Sheet.header_of s.now) result }
+pub fn read_numbers(s: &[u8]) -> Header
+    requires { 11 ≤ length s.now }
+    ensures { numbers_of result ≡ Sheet.header_of s.now }
 {
-    if s.len() < HEADER_SIZE {
-        return Err(Refusal::NoHeader);
-    }
-    let h = Header {
+    Header {
         field: u32::from(s[0]),
         n: u32::from(s[1]),
         t: u32::from(s[2]),
@@ -40,7 +37,17 @@ pub fn read_numbers(s: &[u8]) -> Result<Header, Refusal>
         masks: words::half_word(s, 5) as usize,
         triples: words::half_word(s, 7) as usize,
         script: words::half_word(s, 9) as usize,
-    };
+    }
+}
+
+// The numbers of a sheet's header, or 1, 2 or 3.
+pub fn checked_numbers(s: &[u8]) -> Result<Header, Refusal>
+    ensures { Reads (Sheet.header_tests s.now) (λ h. numbers_of h ≡ Sheet.header_of s.now) result }
+{
+    if s.len() < HEADER_SIZE {
+        return Err(Refusal::NoHeader);
+    }
+    let h = read_numbers(s);
     sharing::permitted(h.field, h.n, h.t)?;
     Ok(h)
 }
@@ -106,7 +113,7 @@ fn run_frame_of(h: Header, present: u32) -> Frame
 pub fn read_run_header(s: &[u8], present: u32) -> Result<Frame, Refusal>
     ensures { Reads (run_tests present s.now) (RunHeaded present (Sheet.header_of s.now)) result }
 {
-    let h = read_numbers(s)?;
+    let h = checked_numbers(s)?;
     if !may_run(h, present) {
         return Err(Refusal::BadPresent);
     }
@@ -120,7 +127,7 @@ pub fn read_run_header(s: &[u8], present: u32) -> Result<Frame, Refusal>
 pub fn read_header(s: &[u8]) -> Result<Frame, Refusal>
     ensures { Reads (Sheet.header_tests s.now ++ Sheet.limit_tests (Sheet.header_of s.now)) (Headed (Sheet.header_of s.now)) result }
 {
-    let h = read_numbers(s)?;
+    let h = checked_numbers(s)?;
     if !within_limits(h) {
         return Err(Refusal::BadLength);
     }

@@ -1,7 +1,7 @@
 use Rattle.std.proofs.Common.{rules}
 use Rattle.sheet.proofs.Answers.{too_short, setting_read}
 use Rattle.sheet.proofs.Headers.{header_is}
-use Rattle.sheet.proofs.header.read_numbers.Goals as goal
+use Rattle.sheet.proofs.header.checked_numbers.Goals as goal
 
 pub returns-then-s-lt-HEADER_SIZE : goal.returns-then-s-lt-HEADER_SIZE
 returns-then-s-lt-HEADER_SIZE c = search (rules, too_short)
