@@ -3,7 +3,7 @@
 // input.
 #![tactic(auto)]
 
-ghost use Rattle.std.specs.Prelude.{◌≤◌, length, IfSome};
+ghost use Rattle.std.specs.Prelude.{◌≤◌, ◌<◌, length, IfSome};
 
 use report::cases::each_case;
 use report::text::{Spaced, line};
@@ -17,22 +17,20 @@ fn main() {
     each_case(&input[..got], run_case);
 }
 
-// Answers how many bytes the case has, where they are all there and the output is not too long.
-fn run_case(s: &[u8]) -> Option<usize>
-    ensures { IfSome result (λ n. (1 ≤ n) × (n ≤ length s.now)) }
+// Answers what follows the case, where it is all there and the output is not too long.
+fn run_case(s: &[u8]) -> Option<&[u8]>
+    ensures { IfSome result (λ rest. length rest.now < length s.now) }
 {
-    if s.len() < 12 {
-        return None;
-    }
-    let way = words::word(s, 0);
-    let size = words::word(s, 4) as usize;
-    let room = words::word(s, 8) as usize;
-    let input = s.get(12..12 + size)?;
+    let (head, rest) = s.split_at_checked(12)?;
+    let way = words::word(head, 0);
+    let size = words::word(head, 4) as usize;
+    let room = words::word(head, 8) as usize;
+    let (input, rest) = rest.split_at_checked(size)?;
     if room > ROOM {
         return None;
     }
     turn(way, input, room);
-    Some(12 + size)
+    Some(rest)
 }
 
 // Lends an output of so many places, in each the number of the place modulo 251.

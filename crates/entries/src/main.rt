@@ -2,7 +2,7 @@
 // reference/src/case.rs has it: 28 words of 4 bytes, little-endian.
 #![tactic(auto)]
 
-ghost use Rattle.std.specs.Prelude.{◌+◌, ◌*◌, ◌%◌, ◌^◌, ◌≤◌, min, ◌≡◌, eqb, length, IfSome};
+ghost use Rattle.std.specs.Prelude.{◌+◌, ◌*◌, ◌%◌, ◌^◌, ◌≤◌, ◌<◌, min, ◌≡◌, eqb, length, IfSome};
 ghost use Rattle.field.specs.Signed.{signed_of};
 ghost use Rattle.entries.specs.Words.{word_of, words_of};
 
@@ -17,12 +17,13 @@ fn main() {
     each_case(&input[..got], run_case);
 }
 
-// Answers how many bytes the case has, where they are all there.
-fn run_case(s: &[u8]) -> Option<usize>
-    ensures { IfSome result (λ n. (1 ≤ n) × (n ≤ length s.now)) }
+// Answers what follows the case, where it is all there.
+fn run_case(s: &[u8]) -> Option<&[u8]>
+    ensures { IfSome result (λ rest. length rest.now < length s.now) }
 {
-    run_entry(s.get(..112)?);
-    Some(112)
+    let (case, rest) = s.split_at_checked(112)?;
+    run_entry(case);
+    Some(rest)
 }
 
 fn run_entry(s: &[u8])

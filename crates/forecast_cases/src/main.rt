@@ -2,7 +2,7 @@
 // little-endian, the length of the input; then the input.
 #![tactic(auto)]
 
-ghost use Rattle.std.specs.Prelude.{◌≤◌, length, IfSome};
+ghost use Rattle.std.specs.Prelude.{◌<◌, length, IfSome};
 
 use report::cases::each_case;
 use report::text::line;
@@ -13,17 +13,14 @@ fn main() {
     each_case(&input[..got], run_case);
 }
 
-// Answers how many bytes the case has, where they are all there.
-fn run_case(s: &[u8]) -> Option<usize>
-    ensures { IfSome result (λ n. (1 ≤ n) × (n ≤ length s.now)) }
+// Answers what follows the case, where it is all there.
+fn run_case(s: &[u8]) -> Option<&[u8]>
+    ensures { IfSome result (λ rest. length rest.now < length s.now) }
 {
-    if s.len() < 4 {
-        return None;
-    }
-    let size = words::word(s, 0) as usize;
-    let head = s.get(4..4 + size)?;
+    let (size, rest) = s.split_at_checked(4)?;
+    let (head, rest) = rest.split_at_checked(words::word(size, 0) as usize)?;
     forecast_head(head);
-    Some(4 + size)
+    Some(rest)
 }
 
 fn forecast_head(head: &[u8]) {

@@ -1,13 +1,12 @@
 // The cases of an input, one after the other.
-ghost use Rattle.std.specs.Prelude.{◌≤◌, length, IfSome};
+ghost use Rattle.std.specs.Prelude.{◌<◌, length, IfSome};
 
-// Each call is given what is left of the input, and answers how many bytes its first case has, or `None` where they are not all there.
-pub fn each_case<F: FnMut(&[u8]) -> Option<usize>>(s: &[u8], mut run: F)
+// Each call is given what is left of the input, and answers what follows its first case, or `None` where the case is not all there.
+pub fn each_case<F: FnMut(&[u8]) -> Option<&[u8]>>(mut s: &[u8], mut run: F)
     requires callable { F.IsAlwaysCallable run }
-    requires length { (f : F) (x : _) (r : _) (g : F) → F.step f x r g → IfSome r (λ n. (1 ≤ n) × (n ≤ length x.now)) }
+    requires shorter { (f : F) (x : _) (r : _) (g : F) → F.step f x r g → IfSome r (λ rest. length rest.now < length x.now) }
 {
-    let mut rest = s;
-    while let Some(size) = run(rest) {
-        rest = &rest[size..];
+    while let Some(rest) = run(s) {
+        s = rest;
     }
 }

@@ -15,10 +15,10 @@ use sharing::setting::Setting;
 use steps::places::Places;
 use steps::{comparison, product};
 
-// Answers how many bytes the case has, where they are all there, its field is in use, and n and t are permitted.
+// Answers what follows the case, where it is all there, its field is in use, and n and t are permitted.
 #[tactic(auto, using(model::proofs::Trying::setting_field, model::proofs::Trying::setting_people))]
-pub fn run_case(s: &[u8]) -> Option<usize>
-    ensures { IfSome result (λ n. (1 ≤ n) × (n ≤ length s.now)) }
+pub fn run_case(s: &[u8]) -> Option<&[u8]>
+    ensures { IfSome result (λ rest. length rest.now < length s.now) }
 {
     if s.len() < 40 {
         return None;
@@ -68,9 +68,9 @@ fn places_of(s: &[u8], setting: Setting) -> Places
     }
 }
 
-fn run_rows(s: &[u8], field: usize, setting: Setting) -> Option<usize>
+fn run_rows(s: &[u8], field: usize, setting: Setting) -> Option<&[u8]>
     requires { (40 ≤ length s.now) × Fields.InUse field × Fitting setting × (setting.p ≡ Fields.modulus field) }
-    ensures { IfSome result (λ n. (1 ≤ n) × (n ≤ length s.now)) }
+    ensures { IfSome result (λ rest. length rest.now < length s.now) }
 {
     let at = places_of(s, setting);
     let end = at.triple + times(up_to(word(s, 9), 87), 12 * setting.n);
@@ -78,7 +78,7 @@ fn run_rows(s: &[u8], field: usize, setting: Setting) -> Option<usize>
         return None;
     }
     run_step(s, field, setting, at);
-    Some(end)
+    Some(&s[end..])
 }
 
 // A mask is l rows, and a case has one or none.

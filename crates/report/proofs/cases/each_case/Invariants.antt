@@ -3,5 +3,5 @@
 use Rattle.std.proofs.Common.{length}
 use Rattle.report.proofs.cases.each_case.Given as goal
 
-abbrev pub decreases-loop-size : goal.decreases-loop-size
-decreases-loop-size g l = length l.rest
+abbrev pub decreases-loop-rest : goal.decreases-loop-rest
+decreases-loop-rest g l = length l.s
