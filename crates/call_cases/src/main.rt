@@ -4,18 +4,13 @@
 
 ghost use Rattle.std.specs.Prelude.{◌≤◌, ◌<◌, IfSome, length};
 
-use report::number::{count, line_end, list_line, number};
+use report::cases::each_case;
+use report::text::{Spaced, line};
 
 fn main() {
     let mut input = [0u8; 100000];
     let got = io::read_full(0, &mut input);
-    run_cases(&input[..got]);
-}
-
-fn run_cases(mut s: &[u8]) {
-    while let Some(rest) = run_case(s) {
-        s = rest;
-    }
+    each_case(&input[..got], run_case);
 }
 
 // Answers what follows the case; nothing where the case is not all there or the buffer is too long.
@@ -40,8 +35,10 @@ fn import_list(list: &[u8], room: usize)
     let mut buffer = [7777777u32; 600];
     let seconds = &mut buffer[..room];
     let answer = calls::import(list, seconds);
-    number(b"end ", refusals::number(&answer.ended));
-    count(b" calls ", answer.calls);
-    line_end();
-    list_line(b"seconds", seconds);
+    line(format_args!(
+        "end {} calls {}",
+        refusals::number(&answer.ended),
+        answer.calls,
+    ));
+    line(format_args!("seconds{}", Spaced(&*seconds)));
 }

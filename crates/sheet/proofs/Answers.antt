@@ -1,4 +1,4 @@
--- What `read_numbers`, `read_header`, `read_run_header` and `read_sheet` answer, by the tests of header, limits, length and rows.
+-- What `checked_numbers`, `read_header`, `read_run_header` and `read_sheet` answer, by the tests of header, limits, length and rows.
 -- Assumes nothing.
 use mathlib.Core.Path.{◌≡◌, refl, sym, ap, subst, ◌∙◌}
 use mathlib.Core.Bool.{Bool, true, false}

@@ -25,6 +25,7 @@ pub struct Header {
     pub script: usize,
 }
 
+#[tactic(auto, using(crate::proofs::Headers::header_is))]
 pub fn read_numbers(s: &[u8]) -> Header
     requires { 11 ≤ length s.now }
     ensures { numbers_of result ≡ Sheet.header_of s.now }
@@ -41,6 +42,7 @@ pub fn read_numbers(s: &[u8]) -> Header
 }
 
 // The numbers of a sheet's header, or 1, 2 or 3.
+#[tactic(auto, using(crate::proofs::Answers::too_short, crate::proofs::Answers::setting_read))]
 pub fn checked_numbers(s: &[u8]) -> Result<Header, Refusal>
     ensures { Reads (Sheet.header_tests s.now) (λ h. numbers_of h ≡ Sheet.header_of s.now) result }
 {
