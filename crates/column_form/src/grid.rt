@@ -19,8 +19,7 @@ impl Grid {
     {
         Grid {
             first: self.first + bytes,
-            down: self.down,
-            across: self.across,
+            ..self
         }
     }
 }

@@ -49,6 +49,7 @@ impl Ahead {
 }
 
 // A row of one share is opened, so many openings having been read: the record's next n numbers give the value, or a refusal.
+#[tactic(auto, using(crate::proofs::Opening::opens_next))]
 pub fn open_row(c: Column, log: &[u32], read: usize, row: Row) -> Result<u32, Refusal>
     requires { Working c × (c.reader.n * read ≤ length log.now) }
     ensures { OpensNext c log.now read row.shares result }

@@ -7,6 +7,7 @@ ghost use Rattle.field.specs.Signed.{signed_of};
 ghost use Rattle.entries.specs.Words.{word_of, words_of};
 
 use field::coding;
+use refusals::number;
 use report::cases::each_case;
 use report::text::{Spaced, line, put};
 
@@ -99,7 +100,8 @@ fn share(s: &[u8])
         coefficients,
         lent,
     );
-    line(format_args!(" : number {answer} left{}", Spaced(&*lent)));
+    let number = number(&answer);
+    line(format_args!(" : number {number} left{}", Spaced(&*lent)));
 }
 
 fn recover(s: &[u8])
@@ -114,8 +116,8 @@ fn recover(s: &[u8])
     let answer = sharing::recover(word(s, 1), word(s, 2), word(s, 3), row, lent);
     line(format_args!(
         " : number {} value {} left{}",
-        answer.number,
-        answer.value,
+        number(&answer),
+        answer.unwrap_or(0),
         Spaced(&*lent),
     ));
 }
@@ -129,8 +131,8 @@ fn encode(s: &[u8])
         "encode field {} k {} signed {a} : number {} value {}",
         word(s, 1),
         word(s, 2),
-        answer.number,
-        answer.value,
+        number(&answer),
+        answer.unwrap_or(0),
     ));
 }
 
@@ -152,8 +154,8 @@ fn decode(s: &[u8])
         "decode field {} value {} : number {} signed {}",
         word(s, 1),
         word(s, 4),
-        answer.number,
-        answer.value,
+        number(&answer),
+        answer.unwrap_or(0),
     ));
 }
 
@@ -167,7 +169,7 @@ fn sum(s: &[u8])
     line(format_args!(
         " row{} : number {} sum {}",
         Spaced(row),
-        answer.number,
-        answer.sum,
+        number(&answer),
+        answer.unwrap_or(0),
     ));
 }

@@ -3,12 +3,33 @@
 use mathlib.Core.Path.{◌≡◌, ap}
 use mathlib.Core.Bool.{Bool, true, false, cond}
 use mathlib.Core.List.{List, [], ◌∷◌, ◌++◌}
-use Prim.Native.Nat.{ℕ, zero, suc, ◌+◌, ◌≤◌, ◌<◌}
+use Prim.Native.Nat.{ℕ, zero, suc, ◌+◌, ◌-◌, ◌≤◌, ◌<◌}
 use native.Mathlib.Omega.{arith}
 use lib.ListN.{get_or}
 use Rattle.algebra.specs.Lists.{from}
-use Rattle.costs.proofs.Marks.{rest, start, turn, end}
 use Rattle.forecast.specs.Unset.{first_unset}
+
+-- the registers b to b + w − 1 from the i-th on
+abbrev pub rest : ℕ → ℕ → ℕ → List ℕ
+rest b w i = from (b + i) (w - i)
+
+module _ (b w : ℕ) where
+  start : rest b w 0 ≡ from b w
+  start =
+      let e : b + 0 ≡ b = omega arith in
+      let k : w - 0 ≡ w = omega arith in
+      rw (e, k)
+
+  turn : (i : ℕ) → i < w → rest b w i ≡ (b + i) ∷ rest b w (i + 1)
+  unfolding from
+  turn i h =
+      let e : w - i ≡ suc (w - (i + 1)) = omega arith in
+      let k : b + (i + 1) ≡ suc (b + i) = omega arith in
+      rw (e, k)
+
+  end : (i : ℕ) → w ≤ i → rest b w i ≡ []
+  unfolding from
+  end i h = let e : w - i ≡ 0 = omega arith in rw e
 
 module _ (marks : List Bool) (b w : ℕ) where
   pub unset_start : first_unset marks (rest b w 0) ≡ first_unset marks (from b w)

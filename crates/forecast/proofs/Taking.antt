@@ -9,15 +9,16 @@ use native.Mathlib.Omega.{arith}
 use lib.Dec.{eqb}
 use lib.ListN.{length, take}
 use lib.Seq.{take-length, length-take-le}
+use Rattle.refusals.specs.declared.Refusal.{Refusal}
+use Rattle.refusals.specs.Numbers.{number_of}
+use Rattle.refusals.proofs.Numbers.{numbered}
+use Rattle.model.specs.Refusing.{first_failed}
 use Rattle.model.specs.Sheet.{header_of, inputs_at, implied_length, header_tests, limit_tests, length_tests}
 use Rattle.model.specs.Columns.{shape_tests}
 use Rattle.model.specs.Forecast.{head_in, Foreseen, foreseen}
 use Rattle.model.proofs.Trying.{given_refused, passes, fails, nothing_left, first_decide, others_decide, told}
 use Rattle.sheet.specs.declared.frame.Frame.{Frame}
-use Rattle.sheet.specs.declared.header.Read.{Read}
-use Rattle.sheet.specs.declared.header.Read.TheVariants.{Sheet, Refused}
 use Rattle.sheet.specs.Framed.{Headed}
-use Rattle.sheet.specs.Reading.{Reads}
 use Rattle.sheet.proofs.Answers.{whole, header_tests_numbered}
 use Rattle.forecast.specs.Taken.{taken, taken_by, Cut}
 
@@ -41,21 +42,18 @@ in_order : (s : List ℕ) → shape_tests s ≡ (header_tests s ++ limit_tests (
 unfolding shape_tests
 in_order s = sym (append_assoc (header_tests s) (limit_tests (header_of s)) (length_tests (header_of s) s))
 
-module _ (s : List ℕ) {r : Read} (A : Reads (header_tests s ++ limit_tests (header_of s)) (Headed (header_of s)) r) where
-  pub header_passes : {f : Frame} {n : ℕ} → r ≡ Sheet f → Cut s (taken_by s) n → Cut s (taken s) n
-  unfolding taken taken_by
-  header_passes e C =
-      let B : Reads (header_tests s ++ limit_tests (header_of s)) (Headed (header_of s)) (Sheet _) = rw e at A in
-      let n = others_decide (header_tests s ++ limit_tests (header_of s)) (length_tests (header_of s) s) (header_tests_numbered s) B.0 refl refl in
-      rw (in_order s, ← n) C
+pub header_passes : (s : List ℕ) {n : ℕ} → 0 ≡ first_failed (header_tests s ++ limit_tests (header_of s)) → Cut s (taken_by s) n → Cut s (taken s) n
+unfolding taken taken_by
+header_passes s e C =
+    let n = others_decide (header_tests s ++ limit_tests (header_of s)) (length_tests (header_of s) s) (header_tests_numbered s) e refl refl in
+    rw (in_order s, ← n) C
 
-  pub header_refused : {k n : ℕ} → r ≡ Refused k → n ≡ length s → Cut s (taken s) n
-  unfolding taken
-  header_refused {k} e q =
-      let B : Reads (header_tests s ++ limit_tests (header_of s)) (Headed (header_of s)) (Refused k) = rw e at A in
-      let z : k ≢ 0 = λ q. omega (arith, B.1) in
-      let n = first_decide (header_tests s ++ limit_tests (header_of s)) (length_tests (header_of s) s) B.0 z in
-      rw (in_order s, ← n, given_refused k (head_in s) s z) (all_of s q)
+pub header_refused : (s : List ℕ) (r : Refusal) {n : ℕ} → number_of r ≡ first_failed (header_tests s ++ limit_tests (header_of s)) → n ≡ length s → Cut s (taken s) n
+unfolding taken
+header_refused s r e q =
+    let z : number_of r ≢ 0 = λ q. omega (arith, numbered r, q) in
+    let n = first_decide (header_tests s ++ limit_tests (header_of s)) (length_tests (header_of s) s) e z in
+    rw (in_order s, ← n, given_refused (number_of r) (head_in s) s z) (all_of s q)
 
 -- as many bytes as are taken
 pub part_length : (s : List ℕ) {part : List ℕ} {n : ℕ} → Cut s part n → n ≡ length (take n s)

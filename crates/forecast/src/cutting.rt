@@ -5,18 +5,19 @@ ghost use Rattle.forecast.specs.Taken.{taken, taken_by, Cut};
 
 use sheet::frame::Frame;
 use sheet::header;
-use sheet::header::Read;
 
 // How many bytes are taken.
+#[tactic(auto, using(crate::proofs::Taking::header_passes, crate::proofs::Taking::header_refused))]
 pub fn head_length(input: &[u8]) -> usize
     ensures { Cut input.now (taken input.now) result }
 {
     match header::read_header(input) {
-        Read::Sheet(f) => by_length(input, f),
-        Read::Refused(_) => input.len(),
+        Ok(f) => by_length(input, f),
+        Err(_) => input.len(),
     }
 }
 
+#[tactic(auto, using(crate::proofs::Taking::whole_sheet, crate::proofs::Taking::other_input))]
 fn by_length(input: &[u8], f: Frame) -> usize
     requires { Headed (header_of input.now) f }
     ensures { Cut input.now (taken_by input.now) result }

@@ -15,9 +15,9 @@ ghost use Rattle.forecasting.specs.Forecasting.{foreseen_of};
 ghost use Rattle.forecast.specs.Taken.{taken};
 
 use forecasting::lines::Foreseen;
-use report::number::{count, line_end, number};
+use refusals::number;
+use report::text::line;
 use sheet::header;
-use sheet::header::Read;
 
 // One byte more than the largest sheet has.
 const BYTES_READ: usize = 59724;
@@ -25,7 +25,7 @@ const BYTES_READ: usize = 59724;
 fn main() {
     let mut input = [0u8; BYTES_READ];
     let got = io::read_full(0, &mut input);
-    tell_read(&input[..], got);
+    tell_read(&input, got);
 }
 
 // The bytes that were read. An input that is longer than what is read is longer than the largest sheet too. It is then no whole sheet (`most` in
@@ -37,14 +37,16 @@ fn tell_read(input: &[u8], got: usize)
 }
 
 // The forecast's number and place, and what they mean.
+#[tactic(auto, using(crate::proofs::Taking::part_length))]
 fn tell(input: &[u8]) {
     let found = foresee_taken(input);
-    end_line(found);
+    line(format_args!("end {} at {}", number(&found.ended), found.place));
     let size = cutting::head_length(input);
     explain(&input[..size], found);
 }
 
 // The forecast of what is taken of the input: header and script of a whole sheet, else all.
+#[tactic(auto, using(crate::proofs::Taking::part_length, crate::proofs::Taking::of_part))]
 fn foresee_taken(input: &[u8]) -> Foreseen
     ensures { foreseen_of result ≡ Paper.foreseen (taken input.now) }
 {
@@ -52,15 +54,9 @@ fn foresee_taken(input: &[u8]) -> Foreseen
     forecasting::foresee(&input[..size])
 }
 
-fn end_line(found: Foreseen) {
-    number(b"end ", found.number);
-    count(b" at ", found.place);
-    line_end();
-}
-
 fn explain(head: &[u8], found: Foreseen) {
     match header::read_header(head) {
-        Read::Sheet(f) => head::accepted(head, f, found),
-        Read::Refused(refusal) => head::refused(head, refusal),
+        Ok(f) => head::accepted(head, f, found),
+        Err(refusal) => head::refused(head, refusal),
     }
 }

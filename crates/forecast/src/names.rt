@@ -1,31 +1,52 @@
 // The names of the commands, by paper and request 7.
-use report::number::{count, number, put};
+use std::fmt;
+use std::fmt::{Display, Formatter, Write};
 
-fn put_name(op: u8) {
-    match op {
-        0 => put(b"END"),
-        1 => put(b"LOAD"),
-        2 => put(b"CONST"),
-        3 => put(b"ADD"),
-        4 => put(b"SUB"),
-        5 => put(b"SCALE"),
-        6 => put(b"MUL"),
-        7 => put(b"MOD"),
-        8 => put(b"TRUNC"),
-        9 => put(b"LTZ"),
-        10 => put(b"OVER"),
-        11 => put(b"BLOCKS"),
-        12 => put(b"REVEAL"),
-        13 => put(b"BITLT"),
-        14 => put(b"LTZS"),
-        _ => number(b"byte ", words::wide(op)),
+#[derive(Drop)]
+struct Name(u8);
+
+impl Display for Name {
+    fn fmt<W: Write>(&self, f: &mut Formatter<W>) -> fmt::Result {
+        f.write_str(match self.0 {
+            0 => "END",
+            1 => "LOAD",
+            2 => "CONST",
+            3 => "ADD",
+            4 => "SUB",
+            5 => "SCALE",
+            6 => "MUL",
+            7 => "MOD",
+            8 => "TRUNC",
+            9 => "LTZ",
+            10 => "OVER",
+            11 => "BLOCKS",
+            12 => "REVEAL",
+            13 => "BITLT",
+            14 => "LTZS",
+            op => return write!(f, "byte {op}"),
+        })
     }
 }
 
 // `BLOCKS at 16`: the command at a place of a script.
-pub fn command(script: &[u8], at: usize) {
-    if at < script.len() {
-        put_name(script[at]);
+#[derive(Drop)]
+pub struct Placed {
+    op: Option<u8>,
+    at: usize,
+}
+
+pub fn command(script: &[u8], at: usize) -> Placed {
+    Placed {
+        op: script.get(at).copied(),
+        at,
     }
-    count(b" at ", at);
+}
+
+impl Display for Placed {
+    fn fmt<W: Write>(&self, f: &mut Formatter<W>) -> fmt::Result {
+        if let Some(op) = self.op {
+            write!(f, "{}", Name(op))?;
+        }
+        write!(f, " at {}", self.at)
+    }
 }

@@ -4,15 +4,16 @@ ghost use Rattle.algebra.specs.Lists.{from};
 ghost use Rattle.costs.specs.Costing.{cost_of};
 ghost use Rattle.forecast.specs.Unset.{first_unset, InTable};
 
-use crate::{amounts, names};
+use crate::amounts::{All, Needed, amounts_of, parts_of};
+use crate::names;
 use costs::cost;
 use costs::cost::Cost;
 use costs::counts::Counts;
 use costs::spent::Spent;
 use forecasting::lines;
 use forecasting::lines::Foreseen;
-use report::number::{count, line_end, put};
-use script::command::Decoded;
+use refusals::Refusal;
+use report::text::{line, put};
 use script::decode;
 use sheet::frame::Frame;
 
@@ -32,17 +33,18 @@ pub fn there(f: Frame) -> Counts {
     counts(f.inputs, f.masks, f.triples)
 }
 
+#[tactic(auto, using(script::proofs::Lines::in_range_lem))]
 pub fn missing(f: Frame, script: &[u8], found: Foreseen)
     requires { (f.l ≤ 31) × (f.largest ≤ 30) }
 {
     let at = found.place;
-    let Decoded::Command(c, _) = decode::decode(f.p, f.largest, script, at) else {
+    let Ok(Some(line)) = decode::decode(f.p, f.largest, script, at) else {
         return;
     };
-    let need = cost::cost_of(f, c);
+    let need = cost::cost_of(f, line.command);
     let spent = found.spent;
-    names::command(script, at);
-    if found.number == 21 {
+    put(names::command(script, at));
+    if found.ended == Err(Refusal::Unset) {
         unset(spent, need);
     } else {
         too_few(there(f), spent.counts, need.counts);
@@ -51,15 +53,13 @@ pub fn missing(f: Frame, script: &[u8], found: Foreseen)
 }
 
 // The first of registers b to b + w − 1 that is not set, or 64.
+#[tactic(auto, using(crate::proofs::Registers::unset_start, crate::proofs::Registers::unset_more, crate::proofs::Registers::unset_here, crate::proofs::Registers::unset_end))]
 fn first_unset(marks: [bool; 64], b: usize, w: usize) -> usize
     requires { b + w ≤ 64 }
     ensures { result ≡ first_unset marks (from b w) }
 {
-    let mut i = 0;
-    while i < w {
-        if marks[b + i] {
-            i += 1;
-        } else {
+    for i in 0..w {
+        if !marks[b + i] {
             return b + i;
         }
     }
@@ -67,6 +67,7 @@ fn first_unset(marks: [bool; 64], b: usize, w: usize) -> usize
 }
 
 // The first register that the command reads and that is not set, or 64.
+#[tactic(auto, using(crate::proofs::Registers::in_first, crate::proofs::Registers::in_second))]
 fn unset_register(marks: [bool; 64], need: Cost) -> usize
     requires { InTable need }
     ensures { result ≡ first_unset marks (cost_of need).reads }
@@ -81,65 +82,46 @@ fn unset_register(marks: [bool; 64], need: Cost) -> usize
 fn unset(spent: Spent, need: Cost)
     requires { InTable need }
 {
-    let marks = spent.marks;
-    count(b" reads register ", unset_register(marks, need));
-    put(b", which no command before it sets.");
-    line_end();
-}
-
-// What is left of an amount.
-fn left(all: usize, spent: usize) -> usize
-    ensures { result ≡ all - spent }
-{
-    if spent <= all { all - spent } else { 0 }
+    let register = unset_register(spent.marks, need);
+    line(format_args!(" reads register {register}, which no command before it sets.",));
 }
 
 fn too_few(all: Counts, spent: Counts, need: Counts) {
     let rest = counts(
-        left(all.inputs, spent.inputs),
-        left(all.masks, spent.masks),
-        left(all.triples, spent.triples),
+        all.inputs.saturating_sub(spent.inputs),
+        all.masks.saturating_sub(spent.masks),
+        all.triples.saturating_sub(spent.triples),
     );
-    put(b" needs ");
-    amounts::plain_needed(need);
-    put(b": ");
-    amounts::part_of_needed(need, rest, all);
-    put(b" are left.");
-    line_end();
+    let needed = Needed(need, amounts_of(need));
+    let left = Needed(need, parts_of(rest, all));
+    line(format_args!(" needs {needed}: {left} are left."));
 }
-
-const MOST: usize = 18446744073709551615;
 
 // What the whole script needs, where with a supply that no script spends it comes to END.
 fn whole_script(f: Frame, script: &[u8])
     requires { (f.l ≤ 31) × (f.largest ≤ 30) }
 {
     let plenty = Counts {
-        inputs: MOST,
-        masks: MOST,
-        triples: MOST,
-        openings: MOST,
-        revealed: MOST,
+        inputs: usize::MAX,
+        masks: usize::MAX,
+        triples: usize::MAX,
+        openings: usize::MAX,
+        revealed: usize::MAX,
     };
     let found = lines::foresee_script(f, script, plenty);
-    if found.number == 0 {
-        put(b"The whole script needs ");
-        amounts::plain_all(found.spent.counts);
-        if over_limits(found.spent.counts) {
-            put(b", more than a header may count");
-        }
-        put(b".");
-        line_end();
+    if found.ended.is_ok() {
+        let spent = found.spent.counts;
+        let more = if over_limits(spent) {
+            ", more than a header may count"
+        } else {
+            ""
+        };
+        let all = All(amounts_of(spent));
+        line(format_args!("The whole script needs {all}{more}."));
     }
 }
 
 // "input rows (at most 64), masks (at most 16), triples (at most 512)"
 fn over_limits(x: Counts) -> bool {
-    if 64 < x.inputs {
-        return true;
-    }
-    if 16 < x.masks {
-        return true;
-    }
-    512 < x.triples
+    x.inputs > 64 || x.masks > 16 || x.triples > 512
 }

@@ -27,6 +27,9 @@ fn run_case(s: &[u8]) -> Option<usize>
 }
 
 fn forecast_head(head: &[u8]) {
-    let answer = forecasting::forecast(head);
-    line(format_args!("end {} at {}", answer.number, answer.place));
+    let (number, place) = match forecasting::forecast(head) {
+        Ok(end) => (0, end),
+        Err(refused) => (u32::from(refused.refusal), refused.place),
+    };
+    line(format_args!("end {number} at {place}"));
 }

@@ -1,5 +1,5 @@
 // Answers to lists that C lends: as many numbers as the list has places for, and past them it is unchanged.
-ghost use Rattle.std.specs.Prelude.{◌≡◌, cond, ◌∷◌, ◌≤◌, ◌<◌};
+ghost use Rattle.std.specs.Prelude.{◌≡◌, ◌∷◌, ◌++◌, length, take, drop};
 ghost use Rattle.model.specs.Counts.{listed};
 ghost use Rattle.costs.specs.Costing.{counts_of};
 ghost use Rattle.jundrethol.specs.Lent.{lent, flags, Delivered};
@@ -7,43 +7,30 @@ ghost use Rattle.jundrethol.specs.Lent.{lent, flags, Delivered};
 use costs::counts::Counts;
 use machine::run::Answer;
 
-// The smaller of two lengths.
-fn least(a: usize, b: usize) -> usize
-    ensures { (result ≤ a) × (result ≤ b) × (result < a → result ≡ b) }
+// The values go to the start of the part.
+fn put<T: Copy>(part: &mut [T], values: &[T])
+    ensures { part.new ≡ take (length part.old) values.now ++ drop (length (take (length part.old) values.now)) part.old }
 {
-    if a < b { a } else { b }
-}
-
-fn flag(set: bool) -> u8
-    ensures { result ≡ cond set 1 0 }
-{
-    if set { 1 } else { 0 }
+    let count = values.len().min(part.len());
+    part[..count].copy_from_slice(&values[..count]);
 }
 
 // A run's cells, of which register r has those from 7r on, and a replay's, one for each register.
+#[tactic(auto, unfolding(crate::specs::Lent::lent, algebra::specs::Lists::onto))]
 pub fn put_cells(part: &mut [u32], cells: &[u32])
     ensures { part.new ≡ lent cells.now part.old }
 {
-    let count = least(cells.len(), part.len());
-    let mut j = 0;
-    while j < count {
-        part[j] = cells[j];
-        j += 1;
-    }
+    put(part, cells);
 }
 
 pub fn put_marks(part: &mut [u8], marks: [bool; 64])
     ensures { part.new ≡ lent (flags marks) part.old }
 {
-    let count = least(64, part.len());
-    let mut j = 0;
-    while j < count {
-        part[j] = flag(marks[j]);
-        j += 1;
-    }
+    put(part, &marks.map(|set| u8::from(set)));
 }
 
 // The place, and the counts in their order.
+#[tactic(auto, unfolding(crate::specs::Lent::lent, algebra::specs::Lists::onto))]
 pub fn put_counts(part: &mut [u64], place: usize, spent: Counts)
     ensures { part.new ≡ lent (place ∷ listed (counts_of spent)) part.old }
 {
@@ -55,12 +42,7 @@ pub fn put_counts(part: &mut [u64], place: usize, spent: Counts)
         spent.openings as u64,
         spent.revealed as u64,
     ];
-    let count = least(6, part.len());
-    let mut j = 0;
-    while j < count {
-        part[j] = counts[j];
-        j += 1;
-    }
+    put(part, &counts);
 }
 
 // Registers, marks, place and counts of an answer. Not inlined, so that the frame of the function for C does not hold a copy of the answer.

@@ -14,6 +14,7 @@ ghost use Rattle.model.specs.Replay as Replay;
 ghost use Rattle.jundrethol.specs.Lent.{Handed, HandedReplay, as_imported, as_forecast};
 
 use machine::run;
+use refusals::number;
 
 // Runs a sheet, with the byte that says who is present. Opened shares go to the log, the header's record. Registers, marks and counts go to lists of any
 // length.
@@ -31,7 +32,7 @@ pub extern "C" fn jundrethol_run(
 {
     let answer = run::run(sheet, present, log, revealed);
     lent::hand(answer, registers, marks, counts);
-    answer.number
+    number(&answer.ended)
 }
 
 // Imports the calls of an exchange's list. How many were written goes to the place that C lends for it.
@@ -41,7 +42,7 @@ pub extern "C" fn jundrethol_import(calls: &mut u64, list: &[u8], seconds: &mut 
 {
     let answer = calls::import(list, seconds);
     *calls = answer.calls as u64;
-    answer.number
+    number(&answer.ended)
 }
 
 // The column form of a sheet, and the sheet of a column form. Both refuse 1, 2, 3, 4, 15.
@@ -49,14 +50,14 @@ pub extern "C" fn jundrethol_import(calls: &mut u64, list: &[u8], seconds: &mut 
 pub extern "C" fn jundrethol_to_columns(sheet: &[u8], columns: &mut [u8]) -> u32
     ensures { (result ≡ turn_number sheet.now columns.old) × (columns.new ≡ output_left column_form sheet.now columns.old) }
 {
-    column_form::to_columns(sheet, columns)
+    number(&column_form::to_columns(sheet, columns))
 }
 
 #[unsafe(no_mangle)]
 pub extern "C" fn jundrethol_to_sheet(columns: &[u8], sheet: &mut [u8]) -> u32
     ensures { (result ≡ turn_number columns.now sheet.old) × (sheet.new ≡ output_left sheet_form columns.now sheet.old) }
 {
-    column_form::to_sheet(columns, sheet)
+    number(&column_form::to_sheet(columns, sheet))
 }
 
 // Whether a run would come to END, by header and script. The place goes to the place that C lends for it. Answers 0, 1 to 4, 9 to 11 or 21 to 24.
@@ -64,9 +65,16 @@ pub extern "C" fn jundrethol_to_sheet(columns: &[u8], sheet: &mut [u8]) -> u32
 pub extern "C" fn jundrethol_forecast(place: &mut u64, head: &[u8]) -> u32
     ensures { as_forecast result place.new ≡ Forecast.forecast head.now }
 {
-    let answer = forecasting::forecast(head);
-    *place = answer.place as u64;
-    answer.number
+    match forecasting::forecast(head) {
+        Ok(end) => {
+            *place = end as u64;
+            0
+        }
+        Err(refused) => {
+            *place = refused.place as u64;
+            u32::from(refused.refusal)
+        }
+    }
 }
 
 // Replays one party's column of a run, from the party's part of the column form and the log, the header's record. Cells and counts go to lists of any
@@ -83,10 +91,9 @@ pub extern "C" fn jundrethol_replay(
     ensures { HandedReplay (Replay.replay party head.now part.now log.now) result cells.old cells.new counts.old counts.new }
 {
     let answer = replay::replay(party, head, part, log);
-    let own = answer.cells;
-    lent::put_cells(cells, &own[..]);
+    lent::put_cells(cells, &answer.cells);
     lent::put_counts(counts, answer.place, answer.counts);
-    answer.number
+    number(&answer.ended)
 }
 
 // The small entries follow, each with the contract of the Rattle entry that it calls. A value goes to the place that C lends for it, 0 in a
@@ -104,7 +111,7 @@ pub extern "C" fn jundrethol_share(
 ) -> u32
     ensures { (result ≡ share_number field n t secret coefficients.now shares.old) × (shares.new ≡ share_left field n t secret coefficients.now shares.old) }
 {
-    sharing::share(field, n, t, secret, coefficients, shares)
+    number(&sharing::share(field, n, t, secret, coefficients, shares))
 }
 
 // Refuses 2, 3, 4, 5, 6.
@@ -120,8 +127,8 @@ pub extern "C" fn jundrethol_recover(
     ensures { (result ≡ recover_number field n t row.now coefficients.old) × (secret.new ≡ recover_value field n t row.now coefficients.old) × (coefficients.new ≡ recover_left field n t row.now coefficients.old) }
 {
     let answer = sharing::recover(field, n, t, row, coefficients);
-    *secret = answer.value;
-    answer.number
+    *secret = answer.unwrap_or(0);
+    number(&answer)
 }
 
 // The sum before reducing. Refuses 2, 3, 4, 5, 6.
@@ -130,8 +137,8 @@ pub extern "C" fn jundrethol_sum(field: u32, n: u32, t: u32, sum: &mut u64, row:
     ensures { (result ≡ sum_number field n t row.now) × (sum.new ≡ sum_value field n t row.now) }
 {
     let answer = sharing::sum(field, n, t, row);
-    *sum = answer.sum;
-    answer.number
+    *sum = answer.unwrap_or(0);
+    number(&answer)
 }
 
 // Refuses 2, 11.
@@ -140,8 +147,8 @@ pub extern "C" fn jundrethol_encode(field: u32, k: u32, a: i64, value: &mut u32)
     ensures { (result ≡ encode_number field k a) × (value.new ≡ encode_value field k a) }
 {
     let answer = field::encode(field, k, a);
-    *value = answer.value;
-    answer.number
+    *value = answer.unwrap_or(0);
+    number(&answer)
 }
 
 // Refuses 2, 5.
@@ -150,7 +157,6 @@ pub extern "C" fn jundrethol_decode(field: u32, v: u32, a: &mut i64) -> u32
     ensures { (result ≡ decode_number field v) × (a.new ≡ decode_value field v) }
 {
     let answer = field::decode(field, v);
-    let value = answer.value;
-    *a = value;
-    answer.number
+    *a = answer.unwrap_or(0);
+    number(&answer)
 }

@@ -25,7 +25,8 @@ pub fn next_row(setting: Setting, one: bool, bit: Row, lt: Row, q: Row) -> Row
     ensures { result.shares ≡ Steps.chosen (setting_of setting) one bit.shares lt.shares q.shares }
 {
     if one {
-        return q;
+        q
+    } else {
+        rows::sub_rows(setting, rows::add_rows(setting, bit, lt), q)
     }
-    rows::sub_rows(setting, rows::add_rows(setting, bit, lt), q)
 }

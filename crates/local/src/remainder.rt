@@ -31,6 +31,7 @@ pub struct Publics {
     pub step: u32,
 }
 
+#[tactic(auto, using(crate::proofs::Powers::power_above))]
 pub fn public_numbers(p: u32, m: u32, c: u32) -> Publics
     requires { Fields.Modulus p × (m < 30) × (2 ^ m < p) × (c < p) }
     ensures { result ≡ publics p m c }

@@ -223,16 +223,6 @@ pub record Weighing (p : ℕ) (parties : List ℕ) (e i : ℕ) (ws : List ℕ) :
   pub weights : take i ws ≡ map (weight p (take e parties)) (take i (take e parties))
   pub past : (k : ℕ) → i ≤ k → get_or ws k 0 ≡ 0
 
-pub weighing_start : (p : ℕ) (parties : List ℕ) (e : ℕ) → Weighing p parties e 0 (0 ∷ 0 ∷ 0 ∷ 0 ∷ [])
-weighing_start p parties e = record { done = omega arith; size = refl; weights = refl; past = λ k _. zeros k }
-  where
-    zeros : (k : ℕ) → ◌≡◌ {A = ℕ} (get_or (0 ∷ 0 ∷ 0 ∷ 0 ∷ []) k 0) 0
-    zeros zero = refl
-    zeros (suc zero) = refl
-    zeros (suc (suc zero)) = refl
-    zeros (suc (suc (suc zero))) = refl
-    zeros (suc (suc (suc (suc k)))) = refl
-
 module _ {p : ℕ} {parties : List ℕ} {e i : ℕ} {ws : List ℕ} (W : Weighing p parties e i ws) (l : length parties ≡ 4) (h : e ≤ 4) where
   pub weighing_more : {w : ℕ} → i < e → w ≡ weight p (take e parties) (get_or parties i 0) → Weighing p parties e (i + 1) (set ws i w)
   weighing_more {w} k q =

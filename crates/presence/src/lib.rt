@@ -48,6 +48,7 @@ pub fn no_opening() -> Opening {
 // By the number of parties, the byte that says that all of them are present.
 const EVERYONE: [u8; 8] = [0, 1, 3, 7, 15, 31, 63, 127];
 
+#[tactic(auto, unfolding(model::specs::Presence::everyone))]
 pub fn everyone(n: usize) -> u8
     requires { n ≤ 7 }
     ensures { result ≡ Presence.everyone n }

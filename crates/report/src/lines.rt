@@ -3,6 +3,7 @@ ghost use Rattle.std.specs.Prelude.{◌*◌, ◌≤◌, length};
 
 use crate::text::{Spaced, line};
 use costs::counts::Counts;
+use refusals::Refusal;
 
 // A line for each row of n numbers, each after the text: so many rows from the start of the list.
 pub fn rows(text: &str, n: usize, many: usize, xs: &[u32])
@@ -26,15 +27,16 @@ pub fn revealed(field: u32, values: usize, xs: &[u32])
     requires { values ≤ length xs.now }
 {
     for &v in &xs[..values] {
-        let signed = field::decode(field, v).value;
+        let signed = field::decode(field, v).unwrap_or(0);
         line(format_args!("revealed {v} signed {signed}"));
     }
 }
 
 // The last line: number, place and counts.
-pub fn end(answer: u32, place: usize, spent: Counts) {
+pub fn end(ended: Result<(), Refusal>, place: usize, spent: Counts) {
+    let number = refusals::number(&ended);
     line(format_args!(
-        "end {answer} at {place} inputs {} masks {} triples {} openings {}",
+        "end {number} at {place} inputs {} masks {} triples {} openings {}",
         spent.inputs, spent.masks, spent.triples, spent.openings,
     ));
 }

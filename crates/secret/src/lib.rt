@@ -72,6 +72,7 @@ pub fn secret_sum(p: u32, t: usize, row: Row) -> u64
 }
 
 // The secret of a row. Every opening, recovery and the tests of masks and triples reconstruct it here.
+#[tactic(auto, using(model::proofs::SumFirst::sum_secret))]
 pub fn secret_of(p: u32, t: usize, row: Row) -> u32
     requires { Fields.Modulus p × (t ≤ 3) }
     ensures { (result ≡ Sharing.secret p t row.shares) × (result < p) }

@@ -6,17 +6,13 @@ use Prim.Native.Nat.{ℕ, ◌+◌, ◌≤◌, ◌<◌}
 use native.Mathlib.Omega.{arith}
 use lib.ListN.{length, get_or, take, drop, length-drop}
 use lib.Seq.{get_or-take, get_or-drop, length-take-le}
-use Rattle.algebra.specs.Ring.{add, mul}
+use Rattle.algebra.specs.Ring.{mul}
 use Rattle.algebra.specs.Rows.{row}
 use Rattle.algebra.proofs.Rows.{is_tab, row_at_lem}
-use Rattle.model.specs.Steps.{Setting, Row, plus, times, constant}
+use Rattle.model.specs.Steps.{Setting, Row, times, constant}
 
--- share j of a sum, of a multiple and of a constant's row
+-- share j of a multiple and of a constant's row
 module _ (S : Setting) (j : ℕ) where
-  pub plus_at : (a b : Row) → j < S.n → get_or (plus S a b) j 0 ≡ add S.p (get_or a j 0) (get_or b j 0)
-  unfolding plus
-  plus_at a b h = row_at_lem S.n _ j h
-
   pub times_at : (c : ℕ) (a : Row) → j < S.n → get_or (times S c a) j 0 ≡ mul S.p c (get_or a j 0)
   unfolding times
   times_at c a h = row_at_lem S.n _ j h

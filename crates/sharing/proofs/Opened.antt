@@ -110,12 +110,11 @@ module _ (S : Setting) (F : Fitting S) where
       ∙ weighted_value F.modulus xs (at 0 x)
       (nodes_distinct xs (openers_distinct S.n S.t S.opening.present) (λ z m. omega (arith, (openers_in S.n S.t S.opening.present z m).1, F.parties)))
 
--- the number of a column in the record, by the bits that are left
-pub number_at : (S : Paper.Setting) (x : List ℕ) (j : ℕ) {rest r : ℕ} → j < S.n → rest ≡ S.present / 2 ^ j → r ≡ cond (eqb (rest % 2) 1) (get_or x j 0) S.p
-    → r ≡ get_or (recorded S x) j 0
+-- the number of a column in the record, by the column's bit
+pub number_at : (S : Paper.Setting) (x : List ℕ) (j : ℕ) {r : ℕ} → j < S.n → r ≡ cond (eqb (S.present / 2 ^ j % 2) 1) (get_or x j 0) S.p → r ≡ get_or (recorded S x) j 0
 unfolding recorded
-number_at S x j h e q =
-    q ∙ rw (e, ← (bit_left S.present j)) (sym (get_or_tab S.n (λ k. cond (is_present S.present (suc k)) (get_or x k 0) S.p) j h))
+number_at S x j h q =
+    q ∙ rw (← (bit_left S.present j)) (sym (get_or_tab S.n (λ k. cond (is_present S.present (suc k)) (get_or x k 0) S.p) j h))
 
 -- with everyone present they are the row's shares
 pub all_recorded : (S : Paper.Setting) (x : List ℕ) (at : ℕ) (log : List ℕ) {log' : List ℕ} {a : Bool} → S.n ≤ length x → a ≡ eqb S.present (everyone S.n) → a ≡ true

@@ -66,10 +66,8 @@ fn put_marked(setting: Setting, list: &mut [u32], at: usize, row: Row)
     requires { Fitting setting × (at + setting.n ≤ length list.old) }
     ensures { list.new ≡ Lists.onto_at at (Steps.recorded (setting_of setting) row.shares) list.old }
 {
-    let opening = setting.opening;
-    let mut rest = opening.present;
     for j in 0..setting.n {
-        list[at + j] = record_number(rest % 2 == 1, row.shares[j], setting.p);
-        rest = rest / 2;
+        let present = (setting.opening.present >> j) % 2 == 1;
+        list[at + j] = record_number(present, row.shares[j], setting.p);
     }
 }

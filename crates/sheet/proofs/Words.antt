@@ -1,13 +1,14 @@
 -- The shares of a run of rows, as one run of words.
 -- Assumes nothing.
 use mathlib.Core.Path.{◌≡◌, refl, sym, ap}
-use mathlib.Core.Bool.{Bool, true, false, ◌&&◌}
+use mathlib.Core.Bool.{Bool, ◌&&◌}
 use mathlib.Core.List.{List, [], ◌∷◌, ◌++◌}
 use Prim.Native.Nat.{ℕ, zero, suc, ◌+◌, ◌*◌}
 use native.Mathlib.Nat.{add-zero, mul-zero, suc-add, zero-add}
 use native.Mathlib.Omega.{arith}
 use lib.Dec.{ltb}
 use lib.ListN.{take}
+use Rattle.std.proofs.Math.Bool.{and_assoc}
 use Rattle.algebra.specs.Lists.{all_below}
 use Rattle.algebra.specs.Rows.{tab}
 use Rattle.algebra.proofs.Rows.{take_row, tab_ext}
@@ -23,10 +24,6 @@ words s i (suc c) = number 4 s i ∷ words s (i + 4) c
 pub words_run : (s : List ℕ) → Run (number 4 s) 4 (words s)
 unfolding words
 words_run s = record { none = λ i. refl; next = λ i c. refl }
-
-and_assoc : (a b c : Bool) → ((a && b) && c) ≡ (a && (b && c))
-and_assoc true b c = refl
-and_assoc false b c = refl
 
 all_append : {A : Type 0} (f : A → Bool) (xs ys : List A) → all f (xs ++ ys) ≡ (all f xs && all f ys)
 unfolding all

@@ -37,13 +37,12 @@ impl Frame {
     pub fn setting(self) -> Setting
         ensures { result ≡ setting_from self }
     {
-        let opening = self.opening;
         Setting {
             p: self.p,
             l: self.l,
             n: self.n,
             t: self.t,
-            opening,
+            opening: self.opening,
         }
     }
 }

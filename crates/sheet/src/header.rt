@@ -62,6 +62,7 @@ fn may_run(h: Header, present: u32) -> bool
 }
 
 // The frame of a header.
+#[tactic(auto, using(model::proofs::Fields::below_four))]
 fn frame_of(h: Header) -> Frame
     requires { Sheet.Permitted (numbers_of h) }
     ensures { Headed (numbers_of h) result }
@@ -72,7 +73,6 @@ fn frame_of(h: Header) -> Frame
     let input = HEADER_SIZE + h.script;
     let mask = input + 4 * n * h.inputs;
     let triple = mask + 4 * n * l * h.masks;
-    let opening = presence::no_opening();
     Frame {
         p: table::modulus(field),
         l,
@@ -86,7 +86,7 @@ fn frame_of(h: Header) -> Frame
         input,
         mask,
         triple,
-        opening,
+        opening: presence::no_opening(),
     }
 }
 
@@ -95,10 +95,11 @@ fn run_frame_of(h: Header, present: u32) -> Frame
     requires { Sheet.Permitted (numbers_of h) × PermittedSet (numbers_of h).n (numbers_of h).t present }
     ensures { Headed (numbers_of h) result × Presented present result }
 {
-    let mut f = frame_of(h);
     let opening = presence::opening_of(h.field as usize, h.n as usize, h.t as usize, present);
-    f.opening = opening;
-    f
+    Frame {
+        opening,
+        ..frame_of(h)
+    }
 }
 
 // The frame of a sheet's header for a run with these parties present, or 1, 2, 3, 12, or 4 for a count.

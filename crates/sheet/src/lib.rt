@@ -27,6 +27,7 @@ pub fn read_sheet(s: &[u8], present: u32) -> Result<Frame, Refusal>
 }
 
 // The length that the header of a sheet implies.
+#[tactic(auto, using(crate::proofs::Headers::end_is, crate::proofs::Headers::end_most))]
 pub fn implied_length(s: &[u8], f: Frame) -> usize
     requires { Headed (Sheet.header_of s.now) f }
     ensures { result ≡ Sheet.implied_length (Sheet.header_of s.now) }

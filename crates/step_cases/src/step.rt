@@ -26,9 +26,7 @@ pub fn run_case(s: &[u8]) -> Option<usize>
     let field = word(s, 1);
     let n = word(s, 2);
     let t = word(s, 3);
-    if sharing::setting_number(field, n, t) != 0 {
-        return None;
-    }
+    sharing::permitted(field, n, t).ok()?;
     run_rows(
         s,
         field as usize,

@@ -3,7 +3,7 @@
 use mathlib.Core.Path.{◌≡◌, refl, ap, ◌∙◌}
 use mathlib.Core.Bool.{cond}
 use mathlib.Core.List.{List}
-use Prim.Native.Nat.{ℕ, suc, ◌+◌, ◌-◌, ◌*◌, ◌/◌, ◌^◌, ◌≤◌, ◌<◌}
+use Prim.Native.Nat.{ℕ, suc, ◌+◌, ◌-◌, ◌*◌, ◌/◌, ◌≤◌, ◌<◌}
 use native.Mathlib.Omega.{arith}
 use lib.ListN.{length, take, drop}
 use lib.Seq.{drop-drop}
@@ -14,10 +14,10 @@ use Rattle.model.specs.Trees as Trees
 use Rattle.sharing.specs.Settings.{setting_of}
 use Rattle.sharing.specs.declared.setting.Setting.{Setting}
 use Rattle.steps.specs.declared.places.Places.{Places}
-use Rattle.steps.specs.Places.{past_triples, Ahead, Room}
+use Rattle.steps.specs.Places.{past_triples, Room}
 use Rattle.steps.specs.Promises.{StepLeaves, Works}
 use Rattle.steps.proofs.Leaving.{done_leaves, product_then}
-use Rattle.steps.proofs.Rooms.{room_first, room_past, room_ahead}
+use Rattle.steps.proofs.Rooms.{room_past}
 
 -- what BITLT does from bit k on, with so many bits left
 abbrev from_bit : Setting → List ℕ → ℕ → ℕ → ℕ → Row → Tree Row Row
@@ -47,10 +47,9 @@ turn {S = S} bits k rest t lt bit log h eb P en L u e =
     let m : 1 + t ≡ suc t = omega arith in
     rw (e ∙ m, bit_more S bits k t rest lt eb, ← m) (product_then h bit lt _ P (rw en at L))
 
--- The loop at bit k: lengths are numbers of the code, so many turns are left, there is room for them, the record keeps its length, and whoever does
+-- The loop at bit k: so many turns are left, there is room for them, the record keeps its length, and whoever does
 -- what is left has done the whole.
 pub record Comparing (s : List ℕ) (S : Setting) (v w : ℕ) (bits : List ℕ) (at₀ : Places) (log₀ log : List ℕ) (lt : Row) (rest : ℕ) (at : Places) (k : ℕ) : Type 0 where
-  pub short : (length s < 2 ^ 64) × (length log₀ < 2 ^ 64)
   pub turns : ℕ
   pub count : w ≡ k + turns
   pub room : Room s log S at turns
@@ -59,12 +58,11 @@ pub record Comparing (s : List ℕ) (S : Setting) (v w : ℕ) (bits : List ℕ) 
       → StepLeaves s S at₀ (w - 1) (comparison (setting_of S) v (sevens w bits)) row log₀ log'
 
 module _ {s : List ℕ} {S : Setting} {v w : ℕ} {bits : List ℕ} {at₀ : Places} {log₀ : List ℕ} where
-  pub comparing_start : {bit lt : Row} → (length s < 2 ^ 64) × (length log₀ < 2 ^ 64) → 1 ≤ w → Room s log₀ S at₀ (w - 1)
+  pub comparing_start : {bit lt : Row} → 1 ≤ w → Room s log₀ S at₀ (w - 1)
       → bit ≡ take 7 (drop (7 * 0) bits) → lt ≡ cond (odd v) (constant (setting_of S) 0) bit → Comparing s S v w bits at₀ log₀ log₀ lt (v / 2) at₀ 1
-  comparing_start f h R eb el =
+  comparing_start h R eb el =
       let m : w ≡ suc (w - 1) = omega arith in
       record {
-        short = f;
         turns = w - 1;
         count = omega arith;
         room = R;
@@ -79,18 +77,10 @@ module _ {s : List ℕ} {S : Setting} {v w : ℕ} {bits : List ℕ} {at₀ : Pla
     turns_room : k < w → Room s log S at (1 + (C.turns - 1))
     turns_room h = rw (one_turn h) at C.room
 
-    -- the room of a turn, and that the places behind it are numbers of the code
-    pub turn_room : k < w → Room s log S at 1
-    turn_room h = room_first 1 _ (turns_room h)
-
-    pub turn_ahead : k < w → Ahead S at 1
-    turn_ahead h = room_ahead 1 _ C.short.0 (rw C.kept C.short.1) (turns_room h)
-
     pub comparing_more : {bit q next : Row} {log' : List ℕ} → k < w → bit ≡ take 7 (drop (7 * k) bits) → StepLeaves s S at 1 (product (setting_of S) bit lt) q log log'
         → length log' ≡ length log → next ≡ chosen (setting_of S) (odd rest) bit lt q → Comparing s S v w bits at₀ log₀ log' next (rest / 2) (past_triples S at 1) (k + 1)
     comparing_more {bit} {log' = log'} h eb P e en =
         record {
-          short = C.short;
           turns = C.turns - 1;
           count = omega (arith, C.count);
           room = room_past 1 _ e (turns_room h);

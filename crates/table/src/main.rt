@@ -12,11 +12,10 @@ ghost use Rattle.table.specs.Ample.{Everyone, Ample};
 use costs::counts::Counts;
 use machine::run;
 use machine::run::Answer;
+use refusals::number;
 use report::lines;
-use report::number::{count, line_end, number};
-use sheet::frame::Frame;
+use report::text::line;
 use sheet::header;
-use sheet::header::Read;
 
 // One byte more than the largest sheet has.
 const BYTES_READ: usize = 59724;
@@ -26,10 +25,12 @@ const RECORD_LENGTH: usize = 10850;
 
 const REVEALED_LENGTH: usize = 511;
 
+const MOST_PARTIES: u8 = 7;
+
 fn main() {
     let mut input = [0u8; BYTES_READ];
     let got = io::read_full(0, &mut input);
-    run_read(&input[..], got);
+    run_read(&input, got);
 }
 
 // The bytes that were read. An input that is longer than what is read is longer than the largest sheet too, so that its first bytes have the whole
@@ -43,7 +44,7 @@ fn run_read(input: &[u8], got: usize)
 fn run_sheet(s: &[u8]) {
     let mut log = [0u32; RECORD_LENGTH];
     let mut revealed = [0u32; REVEALED_LENGTH];
-    run_lent(s, &mut log[..], &mut revealed[..]);
+    run_lent(s, &mut log, &mut revealed);
 }
 
 fn run_lent(s: &[u8], log: &mut [u32], revealed: &mut [u32])
@@ -51,24 +52,20 @@ fn run_lent(s: &[u8], log: &mut [u32], revealed: &mut [u32])
 {
     let answer = run_ample(s, log, revealed);
     let spent = answer.table.spent;
-    if is_run(answer.number) {
+    if is_run(number(&answer.ended)) {
         run_lines(s, spent.counts, log, revealed);
     }
-    lines::end(answer.number, answer.place, spent.counts);
+    lines::end(answer.ended, answer.place, spent.counts);
 }
 
 // "Program `table` takes everyone as present": the byte for the header's n. Where there is no such n, 1, 2 or 3 refuses, whatever the byte is.
 fn everyone(s: &[u8]) -> u8
     ensures { Everyone s.now result }
 {
-    if s.len() < 2 {
+    if s.len() < 2 || s[1] > MOST_PARTIES {
         return 0;
     }
-    let n = s[1];
-    if 7 < n {
-        return 0;
-    }
-    presence::everyone(n as usize)
+    presence::everyone(usize::from(s[1]))
 }
 
 // The run with buffers that none outgrows.
@@ -80,28 +77,21 @@ fn run_ample(s: &[u8], log: &mut [u32], revealed: &mut [u32]) -> Answer
 }
 
 // Whether the sheet is run. "When the input is refused only the last line is printed."
-fn is_run(answer: u32) -> bool
-    ensures { result ≡ is_run answer }
+#[tactic(auto, unfolding(model::specs::Refusals::is_run))]
+fn is_run(number: u32) -> bool
+    ensures { result ≡ is_run number }
 {
-    if answer == 0 { true } else { 21 <= answer }
+    number == 0 || number >= 21
 }
 
 // The lines before the last of a sheet that is run, which has a header.
 fn run_lines(s: &[u8], spent: Counts, log: &[u32], revealed: &[u32])
     requires { (spent.openings * (Sheet.header_of s.now).n ≤ length log.now) × (spent.revealed ≤ length revealed.now) }
 {
-    let Read::Sheet(f) = header::read_header(s) else {
+    let Ok(f) = header::read_header(s) else {
         return;
     };
-    let field = words::wide(s[0]);
-    field_line(f);
+    line(format_args!("field {} parties {} threshold {}", f.p, f.n, f.t));
     lines::opened(f.n, spent.openings, log);
-    lines::revealed(field, spent.revealed, revealed);
-}
-
-fn field_line(f: Frame) {
-    number(b"field ", f.p);
-    count(b" parties ", f.n);
-    count(b" threshold ", f.t);
-    line_end();
+    lines::revealed(u32::from(s[0]), spent.revealed, revealed);
 }

@@ -1,5 +1,4 @@
-use Rattle.std.proofs.Common.{arith}
-use Rattle.std.proofs.lemmas.Result.{err_from_is_err_and}
+use Rattle.std.proofs.Common.{arith, rules}
 use Rattle.local.proofs.Powers.{power_below}
 use Rattle.cuts.specs.Cuts.{width_of}
 use Rattle.column_steps.proofs.Cutting.{cut_stops, cut_comes}
@@ -11,9 +10,7 @@ before-x-requires c =
     (c.requires.0.fitting, omega (arith, K.less, K.most), power_below _ (width_of c.args.y) (omega (arith, K.less)) K.power)
 
 pub returns-in_err-rest : goal.returns-in_err-rest
-returns-in_err-rest c =
-    let p = err_from_is_err_and c.from_residual.result c.from_residual.ensures.1 in
-    rw (p.1, p.2) (cut_stops c.requires.0 c.args.y _ c.width-k.ensures c.low-m.ensures c.before-x.ensures c.in_err-rest.ensures)
+returns-in_err-rest c = search (rules, cut_stops)
 
 pub returns : goal.returns
 returns c =

@@ -1,4 +1,4 @@
-use Rattle.std.proofs.Common.{◌-◌, Ok, Err}
+use Rattle.std.proofs.Common.{◌-◌, rules, Ok, Err}
 use Rattle.std.proofs.lemmas.Result.{err_from_is_err_and}
 use Rattle.model.specs.Bytes.{sevens}
 use Rattle.column_steps.specs.Reads.{past}
@@ -6,9 +6,7 @@ use Rattle.column_steps.proofs.Remainders.{f_stops, f_comes, u0_stops, u0_comes,
 use Rattle.column_steps.proofs.remainder.from_c.Goals as goal
 
 pub returns-in_err-f : goal.returns-in_err-f
-returns-in_err-f c =
-    let p = err_from_is_err_and c.from_residual.result c.from_residual.ensures.1 in
-    rw (p.1, p.2) (f_stops c.requires.0 _ _ _ c.args.m c.args.opened c.args.bits.now c.requires.2 c.in_err-f.ensures)
+returns-in_err-f c = search (rules, f_stops)
 
 pub returns-in_err-u0 : goal.returns-in_err-u0
 returns-in_err-u0 c =

@@ -1,14 +1,10 @@
 use Rattle.std.proofs.Common.{rules, arith}
-use Rattle.std.proofs.lemmas.Result.{err_from_is_err_and}
 use Rattle.local.proofs.Powers.{power_below}
 use Rattle.column_steps.proofs.Remainders.{mask_stops, mask_standing, mask_comes}
 use Rattle.column_steps.proofs.remainder.remainder.Goals as goal
 
 pub returns-in_err-opened : goal.returns-in_err-opened
-returns-in_err-opened c =
-    let p = err_from_is_err_and c.from_residual.result c.from_residual.ensures.1 in
-    rw (p.1, p.2)
-    (mask_stops c.requires.0 _ _ _ c.args.k c.args.m c.args.a.shares _ c.put_rows.ensures.0 c.raised_row.ensures c.spelled_row-r.ensures c.add_rows-masked.ensures c.in_err-opened.ensures)
+returns-in_err-opened c = search (rules, mask_stops)
 
 pub from_c-requires : goal.from_c-requires
 from_c-requires c =

@@ -1,15 +1,9 @@
 use Rattle.std.proofs.Common.{rules}
-use Rattle.steps.proofs.Comparing.{comparing_start, turn_room, turn_ahead, comparing_more, comparing_end}
+use Rattle.steps.proofs.Comparing.{comparing_start, comparing_more, comparing_end}
 use Rattle.steps.proofs.comparison.comparison.Goals as goal
 
 pub loop-k-init : goal.loop-k-init
 loop-k-init c = search (rules, comparing_start)
-
-pub product-q-requires : goal.product-q-requires
-product-q-requires c = turn_room c.loop-k.invariant c.loop-k-test.true
-
-pub past-next-requires : goal.past-next-requires
-past-next-requires c = turn_ahead c.loop-k.invariant c.loop-k-test.true
 
 pub loop-k-preserved : goal.loop-k-preserved
 loop-k-preserved c =
