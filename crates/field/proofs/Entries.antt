@@ -1,14 +1,15 @@
 -- An entry of the table of the four fields is the model's, by one computed test over the table.
 -- Assumes nothing.
-use mathlib.Core.Path.{◌≡◌}
-use mathlib.Core.Bool.{Bool}
+use mathlib.Core.Path.{◌≡◌, refl, sym}
+use mathlib.Core.Bool.{Bool, true, false}
 use mathlib.Core.List.{List}
 use Prim.Native.Nat.{ℕ, ◌+◌, ◌*◌, ◌/◌, ◌%◌, ◌<◌}
 use native.Mathlib.Omega.{arith}
-use lib.Dec.{T, eqb, eqb→eq}
+use borrow.Author.Tests.{ltb-true, ltb-false}
+use lib.Dec.{T, ltb, eqb, eqb→eq}
 use lib.ListN.{get_or}
-use Rattle.algebra.proofs.Tests.{every, every_at}
-use Rattle.model.specs.Fields.{InUse, Modulus, modulus, inverse}
+use Rattle.algebra.proofs.Tests.{every, every_at, is_true, is_false}
+use Rattle.model.specs.Fields.{InUse, Modulus, in_use, modulus, inverse}
 use Rattle.model.proofs.Fields.{below_four, fields}
 use Rattle.field.specs.declared.table.Field.{Field}
 
@@ -35,3 +36,12 @@ inverse_at l d f x t h k =
     let q : (8 * f + x) / 8 ≡ f = omega arith in
     let r : (8 * f + x) % 8 ≡ x = omega arith in
     eqb→eq _ _ (rw (q, r) at (every_at 32 (inverse_test l d) t (8 * f + x) (omega arith)))
+
+-- the fields in use are those below 4
+pub below_4 : (f : ℕ) → ltb f 4 ≡ in_use f
+unfolding in_use
+below_4 f = go (ltb f 4) refl
+  where
+    go : (b : Bool) → ltb f 4 ≡ b → b ≡ in_use f
+    go true e = sym (is_true (in_use f) (every_at 4 in_use tt f (ltb-true f 4 e)))
+    go false e = sym (is_false (in_use f) (λ t. omega (arith, ltb-false f 4 e, below_four f t)))

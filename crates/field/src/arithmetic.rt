@@ -12,6 +12,7 @@ fn reduce(p: u32, a: u32) -> u32
     if a < p { a } else { a % p }
 }
 
+#[tactic(auto, using(crate::proofs::Residues::add_low, crate::proofs::Residues::add_high))]
 pub fn add(p: u32, a: u32, b: u32) -> u32
     requires { Fields.Modulus p }
     ensures { (result ≡ Ring.add p a b) × (result < p) }
@@ -20,6 +21,7 @@ pub fn add(p: u32, a: u32, b: u32) -> u32
     if sum < p { sum } else { sum - p }
 }
 
+#[tactic(auto, using(crate::proofs::Residues::sub_low, crate::proofs::Residues::sub_high))]
 pub fn sub(p: u32, a: u32, b: u32) -> u32
     requires { Fields.Modulus p }
     ensures { (result ≡ Ring.sub p a b) × (result < p) }
@@ -37,7 +39,7 @@ pub fn mul(p: u32, a: u32, b: u32) -> u32
     requires { Fields.Modulus p }
     ensures { (result ≡ Ring.mul p a b) × (result < p) }
 {
-    ((a as u64) * (b as u64) % (p as u64)) as u32
+    (u64::from(a) * u64::from(b) % u64::from(p)) as u32
 }
 
 pub fn negate(p: u32, a: u32) -> u32

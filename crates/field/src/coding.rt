@@ -37,6 +37,7 @@ pub fn in_range(k: u32, a: i64) -> bool
 }
 
 // A signed number of a size below p, as a field value.
+#[tactic(auto, using(crate::proofs::Coded::code_up, crate::proofs::Coded::code_down))]
 pub fn code(p: u32, a: i64) -> u32
     requires { Fields.Modulus p × (mag a < p) }
     ensures { result ≡ Coding.code p a }
@@ -52,8 +53,8 @@ pub fn read_back(p: u32, v: u32) -> i64
 {
     let half = (p - 1) / 2;
     if v <= half {
-        signed(true, v as u64)
+        signed(true, u64::from(v))
     } else {
-        signed(false, (p - 1 - v) as u64)
+        signed(false, u64::from(p - 1 - v))
     }
 }

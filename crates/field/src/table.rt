@@ -45,6 +45,7 @@ const FIELDS: [Field; 4] = [
 ];
 
 // Whether a field is in use.
+#[tactic(auto, using(crate::proofs::Entries::below_4))]
 pub fn in_use(field: u32) -> bool
     ensures { result ≡ Fields.in_use field }
 {

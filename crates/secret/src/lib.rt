@@ -3,6 +3,7 @@
 
 ghost use Rattle.std.specs.Prelude.{◌≡◌, ℕ, ◌+◌, ◌%◌, ◌^◌, ◌≤◌, ◌<◌, get_or};
 ghost use Rattle.algebra.specs.Lists.{from, all_below};
+ghost use Rattle.algebra.specs.Lists as Lists;
 ghost use Rattle.algebra.specs.Rows as Rows;
 ghost use Rattle.model.specs.Fields as Fields;
 ghost use Rattle.model.specs.Sharing as Sharing;
@@ -74,6 +75,13 @@ pub fn secret_of(p: u32, t: usize, row: Row) -> u32
     reduce_sum(p, secret_sum(p, t, row))
 }
 
+// Whether every number of the list is below p.
+pub fn all_below(p: u32, xs: &[u32]) -> bool
+    ensures { result ≡ Lists.all_below p xs.now }
+{
+    xs.iter().all(|&x| x < p)
+}
+
 // Whether the first n cells of a row are a sharing: all are below p, and each is what the t + 1 after it give.
 pub fn is_sharing(p: u32, n: usize, t: usize, row: Row) -> bool
     requires { Fields.Modulus p × Fields.Parties n t }
@@ -95,5 +103,5 @@ fn shares_below(p: u32, n: usize, row: Row) -> bool
     requires { n ≤ 7 }
     ensures { result ≡ all_below p (Rows.tab n (λ j. get_or row.shares j 0)) }
 {
-    row.shares[..n].iter().all(|&share| share < p)
+    all_below(p, &row.shares[..n])
 }

@@ -82,7 +82,7 @@ fn shareable(
         return Err(Refusal::BadLength);
     }
     let p = table::modulus(field as usize);
-    if p <= secret || !rows::all_below(p, coefficients) {
+    if p <= secret || !secret::all_below(p, coefficients) {
         return Err(Refusal::NotBelowP);
     }
     Ok(())
@@ -98,7 +98,7 @@ fn recoverable(field: u32, n: u32, t: u32, row: &[u32], lent: usize) -> Result<(
         return Err(Refusal::BadLength);
     }
     let p = table::modulus(field as usize);
-    if !rows::all_below(p, row) {
+    if !secret::all_below(p, row) {
         return Err(Refusal::NotBelowP);
     }
     if !secret::is_sharing(p, n as usize, t as usize, rows::gather(row)) {

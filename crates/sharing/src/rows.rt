@@ -10,13 +10,6 @@ use crate::setting::Setting;
 use field::arithmetic;
 use secret::Row;
 
-// Whether every number of the list is below p.
-pub fn all_below(p: u32, xs: &[u32]) -> bool
-    ensures { result ≡ Lists.all_below p xs.now }
-{
-    xs.iter().all(|&x| x < p)
-}
-
 // A list of at most seven shares as a row.
 pub fn gather(xs: &[u32]) -> Row
     requires { length xs.now ≤ 7 }

@@ -5,7 +5,7 @@ use borrow.Author.Tests.{tests}
 use Rattle.std.proofs.lemmas.Iterator.{YieldsList-from_slice}
 use Rattle.std.proofs.lemmas.Iterator.Search.{all_from_yields_List}
 use Rattle.algebra.proofs.Lists.{below_listed}
-use Rattle.sharing.proofs.rows.all_below.Goals as goal
+use Rattle.secret.proofs.all_below.Goals as goal
 
 pub returns : goal.returns
 returns c =
