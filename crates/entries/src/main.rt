@@ -101,8 +101,11 @@ fn share(s: &[u8])
         coefficients,
         lent,
     );
-    let number = number(&answer);
-    line(format_args!(" : number {number} left{}", Spaced(&*lent)));
+    line(format_args!(
+        " : number {} left{}",
+        number(&answer),
+        Spaced(&*lent),
+    ));
 }
 
 fn recover(s: &[u8])

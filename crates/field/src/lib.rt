@@ -34,7 +34,7 @@ pub fn decode(field: u32, v: u32) -> Result<i64, Refusal>
 fn encodable(field: u32, k: u32, a: i64) -> Result<(), Refusal>
     ensures { told result ≡ encode_number field k a }
 {
-    table::known(field)?;
+    table::check_field(field)?;
     if k < 2 {
         return Err(Refusal::OutOfRange);
     }
@@ -53,7 +53,7 @@ fn encodable(field: u32, k: u32, a: i64) -> Result<(), Refusal>
 fn decodable(field: u32, v: u32) -> Result<(), Refusal>
     ensures { told result ≡ decode_number field v }
 {
-    table::known(field)?;
+    table::check_field(field)?;
     if v < table::modulus(field as usize) {
         Ok(())
     } else {

@@ -54,7 +54,7 @@ pub fn in_use(field: u32) -> bool
 
 // 2 where a field is not in use.
 #[tactic(auto, using(model::proofs::Trying::trying), unfolding(model::specs::Fields::field_tests))]
-pub fn known(field: u32) -> Result<(), Refusal>
+pub fn check_field(field: u32) -> Result<(), Refusal>
     ensures { told result ≡ first_failed (Fields.field_tests field) }
 {
     if in_use(field) {

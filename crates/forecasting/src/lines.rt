@@ -39,6 +39,7 @@ fn over_lines(f: Frame, script: &[u8], supply: Counts) -> Foreseen
 {
     let mut spent = spent::nothing();
     let mut at = 0;
+    // The script is one that 9 to 11 do not refuse, so that what ends the loop is END.
     while let Ok(Some(line)) = decode::decode(f.p, f.largest, script, at) {
         let need = cost::cost_of(f, line.command);
         if let Err(refusal) = check::check(spent, supply, need) {

@@ -31,6 +31,7 @@ fn run_script(f: Frame, s: &[u8], script: &[u8], log: &mut [u32], revealed: &mut
     let supply = spent::supply(f, log.len(), revealed.len());
     let mut table = Table::new();
     let mut place = 0;
+    // The script is one that 9 to 11 do not refuse, so that what ends the loop is END.
     while let Ok(Some(line)) = decode::decode(f.p, f.largest, script, place) {
         let need = cost::cost_of(f, line.command);
         if let Err(refusal) = check::check(table.spent, supply, need) {

@@ -32,6 +32,7 @@ pub fn replay_lines(own: Own, f: Frame, script: &[u8], part: &[u8], log: &[u32])
     let supply = spent::supply(f, RECORD_LENGTH, REVEALED_LENGTH);
     let mut table = Table::new();
     let mut place = 0;
+    // The script is one that 9 to 11 do not refuse, so that what ends the loop is END.
     while let Ok(Some(line)) = decode::decode(f.p, f.largest, script, place) {
         let need = cost::cost_of(f, line.command);
         if let Err(refusal) = check::check(table.spent, supply, need) {

@@ -77,7 +77,7 @@ fn shareable(
 ) -> Result<(), Refusal>
     ensures { told result ≡ first_failed (share_tests field n t secret coefficients.now lent) }
 {
-    permitted(field, n, t)?;
+    check_setting(field, n, t)?;
     if coefficients.len() != t as usize || lent != n as usize {
         return Err(Refusal::BadLength);
     }
@@ -93,7 +93,7 @@ fn shareable(
 fn recoverable(field: u32, n: u32, t: u32, row: &[u32], lent: usize) -> Result<(), Refusal>
     ensures { told result ≡ first_failed (recover_tests field n t row.now lent) }
 {
-    permitted(field, n, t)?;
+    check_setting(field, n, t)?;
     if row.len() != n as usize || lent != t as usize {
         return Err(Refusal::BadLength);
     }
@@ -109,10 +109,10 @@ fn recoverable(field: u32, n: u32, t: u32, row: &[u32], lent: usize) -> Result<(
 
 // 2, 3 or nothing.
 #[tactic(auto, using(model::proofs::Trying::trying), unfolding(model::specs::Fields::setting_tests))]
-pub fn permitted(field: u32, n: u32, t: u32) -> Result<(), Refusal>
+pub fn check_setting(field: u32, n: u32, t: u32) -> Result<(), Refusal>
     ensures { told result ≡ first_failed (Fields.setting_tests field n t) }
 {
-    table::known(field)?;
+    table::check_field(field)?;
     if parties(n, t) {
         Ok(())
     } else {

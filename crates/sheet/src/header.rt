@@ -50,7 +50,7 @@ pub fn checked_numbers(s: &[u8]) -> Result<Header, Refusal>
         return Err(Refusal::NoHeader);
     }
     let h = read_numbers(s);
-    sharing::permitted(h.field, h.n, h.t)?;
+    sharing::check_setting(h.field, h.n, h.t)?;
     Ok(h)
 }
 

@@ -26,7 +26,7 @@ pub fn run_case(s: &[u8]) -> Option<&[u8]>
     let field = word(s, 1);
     let n = word(s, 2);
     let t = word(s, 3);
-    sharing::permitted(field, n, t).ok()?;
+    sharing::check_setting(field, n, t).ok()?;
     run_rows(
         s,
         field as usize,
