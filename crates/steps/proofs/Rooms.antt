@@ -1,4 +1,4 @@
--- Room for some triples: for the first, and for those behind them.
+-- Room for some triples: for those behind the first.
 -- Assumes nothing.
 use mathlib.Core.Path.{◌≡◌}
 use mathlib.Core.List.{List}
@@ -10,8 +10,5 @@ use Rattle.steps.specs.declared.places.Places.{Places}
 use Rattle.steps.specs.Places.{past_triples, Room}
 
 module _ {s log : List ℕ} {S : Setting} {at : Places} where
-  pub room_first : (j k : ℕ) → Room s log S at (j + k) → Room s log S at j
-  room_first j k R = record { fitting = R.fitting; triples = omega (arith, R.triples); openings = omega (arith, R.openings) }
-
   pub room_past : (j k : ℕ) {log' : List ℕ} → length log' ≡ length log → Room s log S at (j + k) → Room s log' S (past_triples S at j) k
   room_past j k e R = record { fitting = R.fitting; triples = omega (arith, R.triples); openings = omega (arith, R.openings) }

@@ -2,7 +2,7 @@
 -- Assumes nothing.
 use Rattle.std.specs.Prelude.{List, ℕ, ◌+◌, ◌-◌, take}
 use Rattle.model.specs.Steps.{Row, row_ops, plus, minus}
-use Rattle.model.specs.Trees.{Tree, done, multiply, mask, comparison}
+use Rattle.model.specs.Trees.{Tree, done, multiply, comparison}
 use Rattle.sharing.specs.Settings.{setting_of}
 use Rattle.sharing.specs.declared.setting.Setting.{Setting}
 use Rattle.local.specs.declared.remainder.Publics.{Publics}
