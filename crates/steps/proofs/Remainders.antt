@@ -7,7 +7,7 @@ use native.Mathlib.Omega.{arith}
 use lib.ListN.{take, drop}
 use Rattle.model.specs.Bytes.{sevens}
 use Rattle.model.specs.Costs.{mod_triples}
-use Rattle.model.specs.Steps.{Row, less_mask, plus, minus, constant, spelled, under_mask, by_rows, step_of, product, comparison, remainder}
+use Rattle.model.specs.Steps.{Row, less_mask, plus, minus, constant, spelled, under_mask, by_rows, product, comparison, remainder}
 use Rattle.model.specs.Trees as Trees
 use Rattle.sharing.specs.Settings.{setting_of}
 use Rattle.sharing.specs.declared.setting.Setting.{Setting}
@@ -15,8 +15,8 @@ use Rattle.local.specs.declared.remainder.Publics.{Publics}
 use Rattle.local.specs.Unmasking.{publics, MaskBits, unmasked_by}
 use Rattle.steps.specs.declared.places.Places.{Places}
 use Rattle.steps.specs.Places.{past_triples, past_mask, Room}
-use Rattle.steps.specs.Promises.{Opens, StepLeaves, Works, MaskedLeaves}
-use Rattle.steps.specs.Remainders.{f_triples, after_u1, after_f, after_c, from_x}
+use Rattle.steps.specs.Promises.{Opens, StepLeaves, Works, mask_at, MaskedLeaves}
+use Rattle.steps.specs.Remainders.{f_triples, after_u1, after_f, after_c}
 use Rattle.steps.proofs.Leaving.{log_then, done_leaves, product_then, comparison_then}
 use Rattle.steps.proofs.Products.{one_opened}
 
@@ -49,18 +49,14 @@ module _ {s : List ℕ} {S : Setting} {at : Places} {log log' : List ℕ} {row :
       rw (triples_of S.l m L.least L.within, low_sevens m S.l cells L.within)
       (comparison_then L.fitting.parties C S.l cells _ A (rw ex at R))
 
-  pub mask_leaves : (m : ℕ) (x : Row) (cells : List ℕ) {r o : Row} {c : ℕ} {log'' : List ℕ} → S.n ≤ 7 → r ≡ spelled (setting_of S) (sevens S.l cells) → o ≡ plus (setting_of S) x r
+  pub mask_leaves : (k m : ℕ) (a : Row) (cells : List ℕ) {x r o : Row} {c : ℕ} {log'' : List ℕ} → S.n ≤ 7 → sevens S.l cells ≡ mask_at s S at
+      → x ≡ plus (setting_of S) a (constant (setting_of S) (2 ^ (k - 1))) → r ≡ spelled (setting_of S) (sevens S.l cells) → o ≡ plus (setting_of S) x r
       → Opens S at.log o c log log'
       → Works s S (past_mask S at) (mod_triples S.l m) (after_c S m c (sevens S.l cells)) row log' log''
-      → MaskedLeaves s S at (sevens S.l cells) m (step_of (setting_of S) (from_x S m x)) row log log''
-  unfolding by_rows
-  mask_leaves m x cells {r} {o} h er eo O R d e D =
-      let under : o ≡ under_mask (setting_of S) x (sevens S.l cells) = eo ∙ rw er in
-      let B = R (less_mask d) (record { more = D.more; triples = D.triples }) in
-      rw (e, ← under, ← O.value_is)
+      → MaskedLeaves s S at (mask_at s S at) m (remainder (setting_of S) k m a) row log log''
+  unfolding by_rows remainder Trees.remainder
+  mask_leaves k m a cells {x} {r} {o} h bits ex er eo O R d e D =
+      let under : o ≡ under_mask (setting_of S) x (mask_at s S at) = eo ∙ rw (er, bits) in
+      let B = (rw bits at R) (less_mask d) (record { more = D.more; triples = D.triples }) in
+      rw (e, ← ex, ← under, ← O.value_is)
       (record { row_is = B.row_is; log_is = log_then (setting_of S) at.log (o ∷ []) _ log O.log_is (one_opened (setting_of S) o) B.log_is })
-
-  pub remainder_leaves : (k m : ℕ) (a : Row) {x : Row} {r r' : List Row} → x ≡ plus (setting_of S) a (constant (setting_of S) (2 ^ (k - 1))) → r ≡ r'
-      → MaskedLeaves s S at r m (step_of (setting_of S) (from_x S m x)) row log log' → MaskedLeaves s S at r' m (remainder (setting_of S) k m a) row log log'
-  unfolding remainder Trees.remainder
-  remainder_leaves k m a ex er L = rw (ex, er) at L

@@ -1,10 +1,14 @@
 use Rattle.std.proofs.Common.{rules, arith}
 use Rattle.local.proofs.Powers.{power_below}
-use Rattle.steps.proofs.Remainders.{remainder_leaves}
+use Rattle.steps.proofs.Products.{plus_below}
+use Rattle.steps.proofs.Remainders.{mask_leaves}
 use Rattle.steps.proofs.remainder.remainder.Goals as goal
 
-pub from_mask-requires : goal.from_mask-requires
-from_mask-requires c =
+pub open_at-c-requires : goal.open_at-c-requires
+open_at-c-requires c = search (rules, plus_below)
+
+pub from_c-requires : goal.from_c-requires
+from_c-requires c =
     let M = c.requires in (
       record {
         fitting = M.room.fitting;
@@ -14,10 +18,11 @@ from_mask-requires c =
         within = M.within;
         there = search rules;
       },
-      M.mask,
-      M.room,
+      c.open_at-c.ensures.below,
+      search rules,
     )
 
 pub returns : goal.returns
 returns c =
-    remainder_leaves _ _ _ c.raised_row-x.ensures c.put_rows.ensures.0 c.from_mask.ensures
+    mask_leaves c.args.k c.args.m c.args.a.shares _ c.requires.room.fitting.parties c.put_rows.ensures.0 c.raised_row.ensures c.spelled_row-r.ensures c.add_rows-masked.ensures c.open_at-c.ensures
+    (rw c.past_mask.ensures at c.from_c.ensures)

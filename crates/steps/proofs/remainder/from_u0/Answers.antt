@@ -1,6 +1,0 @@
-use Rattle.steps.proofs.Leaving.{comparison_then}
-use Rattle.steps.proofs.remainder.from_u0.Goals as goal
-
-pub returns : goal.returns
-returns c =
-    comparison_then c.requires.0.fitting.parties _ _ _ _ c.comparison-u1.ensures (rw c.past-next.ensures at c.from_u1.ensures)
