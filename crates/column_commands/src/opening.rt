@@ -87,6 +87,8 @@ pub fn revealed(table: Table, c: Column, at: Ahead, log: &[u32], a: usize) -> Re
     ensures { Reveals c log.now at.opening (register_in table.cells a) table result }
 {
     let row = register(&table.cells[..], a);
-    column::open_row(c, log, at.opening, row)?;
-    Ok(table)
+    match column::open_row(c, log, at.opening, row) {
+        Ok(_) => Ok(table),
+        Err(refusal) => Err(refusal),
+    }
 }

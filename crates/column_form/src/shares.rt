@@ -13,13 +13,15 @@ use crate::layout::Layout;
 // next: with seven parties 7 KB are read, and 7 KB written.
 const BLOCK: usize = 256;
 
-// The first bytes, so many of them.
-#[tactic(auto, using(crate::proofs::Copying::head_copied))]
+// The first bytes, so many of them. `copy_from_slice` calls memmove, which the archive is not to ask of a program that links it.
+#[tactic(auto, using(algebra::proofs::Lists::writing_more, algebra::proofs::Lists::writing_length, algebra::proofs::Lists::writing_end))]
 fn copy_head(s: &[u8], count: usize, out: &mut [u8])
     requires { (count ≤ length s.now) × (count ≤ length out.old) }
     ensures { out.new ≡ onto (take count s.now) out.old }
 {
-    out[..count].copy_from_slice(&s[..count]);
+    for j in 0..count {
+        out[j] = s[j];
+    }
 }
 
 // Byte by byte, each read before one is written, which the compiler makes one read and one write of four bytes. `copy_from_slice` would ask of every share
