@@ -160,25 +160,28 @@ replay_refused j head part log r e q = q ∙ rw (← e) (sym (given_refused (num
 pub all_ready : (j : ℕ) (head part : List ℕ) → 0 ≡ first_failed (replay_tests j head part) → ReplayReady j head part
 all_ready j head part e = (ready j head part).1 (sym e)
 
+-- the header's first byte, its field
+pub byte_there : {j : ℕ} {head part : List ℕ} → ReplayReady j head part → 0 < length head
+unfolding header_size
+byte_there {head = head} R = omega (arith, header_long head (sym R.header))
+
+pub field_is : (head : List ℕ) {field : ℕ} → field ≡ get_or head 0 0 → field ≡ (header_of head).field
+unfolding header_of
+field_is head e = e
+
 -- the script, and the lines
-module _ (j : ℕ) (head part log : List ℕ) (R : ReplayReady j head part) {f : Frame} (H : Headed (header_of head) f) where
-  pub script_refused : (x : Refused) {r : Replayed} → number_of x.refusal ≡ script_number (script_of f.p f.largest (script_part head f))
-      → x.place ≡ script_place (script_of f.p f.largest (script_part head f)) → r ≡ nothing_replayed (number_of x.refusal) x.place → r ≡ replay j head part log
-  script_refused x en ep a = a ∙ go (sheet_script head) refl (en ∙ rw (script_read head H)) (ep ∙ rw (script_read head H))
+module _ {j : ℕ} {head part : List ℕ} (R : ReplayReady j head part) {f : Frame} (H : Headed (header_of head) f) where
+  abbrev script : List ℕ
+  script = script_part head f
+
+  pub script_refused : (log : List ℕ) (x : Refused) {r : Replayed} → number_of x.refusal ≡ script_number (script_of f.p f.largest script)
+      → x.place ≡ script_place (script_of f.p f.largest script) → r ≡ nothing_replayed (number_of x.refusal) x.place → r ≡ replay j head part log
+  script_refused log x en ep a = a ∙ go (sheet_script head) refl (en ∙ rw (script_read head H)) (ep ∙ rw (script_read head H))
     where
       go : (y : Script) → sheet_script head ≡ y → number_of x.refusal ≡ script_number y → x.place ≡ script_place y
           → nothing_replayed (number_of x.refusal) x.place ≡ replay j head part log
       go (accepted xs end) q en ep = absurd (omega (arith, no_refusal x.refusal, en))
       go (refused c i) q en ep = rw (en, ep) (sym ((before j head part log).script_next c i R q))
-
-  -- the header's first byte, its field
-  pub byte_there : 0 < length head
-  unfolding header_size
-  byte_there = omega (arith, header_long head (sym R.header))
-
-  pub field_is : {field : ℕ} → field ≡ get_or head 0 0 → field ≡ (header_of head).field
-  unfolding header_of
-  field_is e = e
 
   pub framing : {field : ℕ} → field ≡ (header_of head).field → Framing f field j
   framing e =
@@ -193,9 +196,9 @@ module _ (j : ℕ) (head part log : List ℕ) (R : ReplayReady j head part) {f :
         masks = mask_rows_in H;
       }
 
-  module _ {o : Own} (O : OwnFor f j o) {script : List ℕ} (es : script ≡ script_part head f) where
-    pub prepared : script_number (script_of f.p f.largest script) ≡ 0 → Prepared o f script part
-    prepared z =
+  module _ {o : Own} (O : OwnFor f j o) (z : 0 ≡ script_number (script_of f.p f.largest script)) where
+    pub prepared : Prepared o f script part
+    prepared =
         record {
           working = O.column.working;
           field = rw (H.p_is, H.l_is, H.k_is) (header_field (header_of head) H.in_use);
@@ -207,20 +210,16 @@ module _ (j : ℕ) (head part log : List ℕ) (R : ReplayReady j head part) {f :
           mask_is = O.mask_is;
           triple_is = O.triple_is;
           part_is = rw (H.inputs_is, H.l_is, H.masks_is, H.triples_is) R.part_length;
-          unrefused = z;
+          unrefused = sym z;
         }
 
-    script_same : script_of f.p f.largest script ≡ sheet_script head
-    script_same = rw es (script_read head H)
-
     -- the lines as the definition has them
-    same_lines : (x : Script) → script_number x ≡ 0 → sheet_script head ≡ x → replayed_by (script_replayed o f part log x) ≡ replay j head part log
+    same_lines : (log : List ℕ) (x : Script) → 0 ≡ script_number x → sheet_script head ≡ x → replayed_by (script_replayed o f part log x) ≡ replay j head part log
     unfolding replay replay_script part_input part_deal
-    same_lines (refused n place) z q = absurd (omega (arith, script_late f.p f.largest script (script_same ∙ q)))
-    same_lines (accepted xs end) z q =
+    same_lines log (refused n place) z q = absurd (omega (arith, script_late f.p f.largest script (script_read head H ∙ q)))
+    same_lines log (accepted xs end) z q =
         let C = O.column in
         rw ((ready j head part).0 R, q, C.p_is, C.l_is, C.n_is, C.t_is, C.party_is, O.inputs_is, O.mask_is, O.triple_is, H.p_is, H.l_is, H.n_is, H.t_is, H.inputs_is, H.masks_is, H.triples_is)
 
-    pub lines_answer : (st : Stopped) {r : Replayed} → script_number (script_of f.p f.largest script) ≡ 0 → ended_of st ≡ lines_replayed o f script part log
-        → r ≡ replayed_by (ended_of st) → r ≡ replay j head part log
-    lines_answer st z e a = a ∙ ap replayed_by e ∙ same_lines (script_of f.p f.largest script) z (sym script_same)
+    pub lines_answer : (log : List ℕ) (st : Stopped) {r : Replayed} → ended_of st ≡ lines_replayed o f script part log → r ≡ replayed_by (ended_of st) → r ≡ replay j head part log
+    lines_answer log st e a = a ∙ ap replayed_by e ∙ same_lines log (script_of f.p f.largest script) z (sym (script_read head H))

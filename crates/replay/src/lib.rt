@@ -6,14 +6,11 @@ pub mod own;
 
 ghost use Rattle.std.specs.Prelude.{◌≡◌};
 ghost use Rattle.refusals.specs.Numbers.{number_of};
-ghost use Rattle.model.specs.Script.{script_of};
 ghost use Rattle.model.specs.Sheet.{header_of};
 ghost use Rattle.model.specs.Replay as Replay;
 ghost use Rattle.model.specs.Replays.{ReplayReady};
-ghost use Rattle.script.specs.Meaning.{script_number};
 ghost use Rattle.sheet.specs.Framed.{Headed};
 ghost use Rattle.sheet.specs.Reading.{Reads};
-ghost use Rattle.sheet.proofs.Scripts.{script_part};
 ghost use Rattle.replay.specs.Lines.{ended_of};
 ghost use Rattle.replay.specs.Answers.{answer_of};
 
@@ -67,7 +64,7 @@ fn head_frame(party: u32, head: &[u8], part: &[u8]) -> Result<Frame, Refusal>
     Ok(f)
 }
 
-// 9 to 11, tried on the whole script, which ends where a sheet's input rows start.
+// 9 to 11, tried on the whole script, which ends where a sheet's input rows start; then its lines, for the field that a header's first byte names.
 fn by_script(party: u32, head: &[u8], part: &[u8], log: &[u32], f: Frame) -> Answer
     requires { ReplayReady party head.now part.now × Headed (header_of head.now) f }
     ensures { answer_of result ≡ Replay.replay party head.now part.now log.now }
@@ -75,17 +72,9 @@ fn by_script(party: u32, head: &[u8], part: &[u8], log: &[u32], f: Frame) -> Ans
     let end = f.input;
     let from = end - f.script;
     let script = &head[from..end];
-    match script::check::check_script(f.p, f.largest, script) {
-        Ok(_) => by_lines(party, head, part, log, f, script),
-        Err(found) => nothing(found.refusal, found.place),
+    if let Err(found) = script::check::check_script(f.p, f.largest, script) {
+        return nothing(found.refusal, found.place);
     }
-}
-
-// A script that 9 to 11 do not refuse.
-fn by_lines(party: u32, head: &[u8], part: &[u8], log: &[u32], f: Frame, script: &[u8]) -> Answer
-    requires { ReplayReady party head.now part.now × Headed (header_of head.now) f × (script.now ≡ script_part head.now f) × (script_number (script_of f.p f.largest script.now) ≡ 0) }
-    ensures { answer_of result ≡ Replay.replay party head.now part.now log.now }
-{
     let field = usize::from(head[0]);
     let own = own::own_of(f, field, party as usize, log);
     answered(lines::replay_lines(own, f, script, part, log))

@@ -28,12 +28,6 @@ impl Row {
     }
 }
 
-pub fn wide(x: u32) -> u64
-    ensures { (result ≡ x) × (result < 2 ^ 32) }
-{
-    u64::from(x)
-}
-
 // The sum before reducing, of the shares of parties i + 1 to i + e: each times its weight below p, added. The weights are 2p + 1 at most, taken
 // together, so the sum of any 32-bit shares fits.
 fn weighted_sum(p: u32, e: usize, row: Row, i: usize) -> u64

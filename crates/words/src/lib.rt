@@ -4,20 +4,6 @@
 ghost use Rattle.std.specs.Prelude.{◌≡◌, ◌+◌, ◌≤◌, ◌<◌, length};
 ghost use Rattle.model.specs.Bytes as Bytes;
 
-// A byte as a number of 32 bits.
-pub fn wide(x: u8) -> u32
-    ensures { (result ≡ x) × (result < 256) }
-{
-    x as u32
-}
-
-// A byte as an index.
-pub fn index(x: u8) -> usize
-    ensures { (result ≡ x) × (result < 256) }
-{
-    x as usize
-}
-
 // The number in 2 bytes from place i on.
 #[tactic(auto, unfolding(model::specs::Bytes::number))]
 pub fn half_word(s: &[u8], i: usize) -> u32
