@@ -20,7 +20,7 @@ pub struct Point {
 }
 
 // How a run works its openings: the byte that says who is present, and the lowest t + 1 present parties with their weights. Points past these have the
-// weight 0. The points are four fields and not a list: a frame has them, what is found of a sheet is an enum with a frame, and an enum may hold no list.
+// weight 0. The points are four fields, by whose names the four products of an opening are written out.
 #[derive(Clone, Copy)]
 pub struct Opening {
     pub present: u32,
