@@ -101,11 +101,7 @@ fn share(s: &[u8])
         coefficients,
         lent,
     );
-    line(format_args!(
-        " : number {} left{}",
-        number(&answer),
-        Spaced(&*lent),
-    ));
+    line(format_args!(" : number {} left{}", number(&answer), Spaced(&*lent),));
 }
 
 fn recover(s: &[u8])
