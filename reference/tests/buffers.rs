@@ -32,30 +32,36 @@ fn stored_cases_leave_a_place_in_the_program_s_buffer() {
     leave_a_place("forecast_cases", all, forecast::case::Case::to_bytes);
 }
 
+/// The constant of this name in the program of this crate.
+fn constant(name: &str, constant: &str) -> usize {
+    number(name, &format!("const {constant}: usize = "), ";")
+}
+
+/// How many cases the program of this crate takes.
+fn taken(name: &str) -> usize {
+    number(name, "for _ in 0..", " {")
+}
+
 /// Program cases reads case by case.
 #[test]
 fn stored_runs_are_no_more_than_the_program_takes_and_fit_its_buffers() {
     let cases = sheets::stored::all();
-    assert!(cases.len() <= number("cases", "let mut left = ", "usize;"));
-    let room = number("cases", "let mut room = [0u8; ", "];");
-    let record = number("cases", "let mut log = [7777777u32; ", "];");
-    let revealed = number("cases", "let mut revealed = [7777777u32; ", "];");
+    assert!(cases.len() <= taken("cases"));
     for case in cases {
-        assert!(case.sheet.len() <= room);
-        assert!(case.record <= record && case.revealed <= revealed);
+        assert!(case.sheet.len() <= constant("cases", "SHEET"));
+        assert!(case.record <= constant("cases", "LOG"));
+        assert!(case.revealed <= constant("cases", "REVEALED"));
     }
 }
 
-/// Program replay_cases too; its room takes head, part and the record's bytes.
+/// Program replay_cases too.
 #[test]
 fn stored_replays_are_no_more_than_the_program_takes_and_fit_its_buffers() {
     let cases = replay::stored::all();
-    assert!(cases.len() <= number("replay_cases", "let mut left = ", "usize;"));
-    let room = number("replay_cases", "let mut room = [0u8; ", "];");
-    let record = number("replay_cases", "let mut log = [0u32; ", "];");
+    assert!(cases.len() <= taken("replay_cases"));
     for case in cases {
-        let numbers = case.record.len();
-        assert!(case.head.len() + case.part.len() + 4 * numbers <= room);
-        assert!(numbers <= record);
+        assert!(case.head.len() <= constant("replay_cases", "HEAD"));
+        assert!(case.part.len() <= constant("replay_cases", "PART"));
+        assert!(case.record.len() <= constant("replay_cases", "NUMBERS"));
     }
 }
