@@ -32,7 +32,7 @@ use Rattle.model.proofs.Presence.{presence, openers_in}
 use Rattle.model.proofs.RecordOpenings.{enough_there, openings}
 use Rattle.model.proofs.Windows.{value_same, present_after, window, after_all, windows_on_one, on_one_windows}
 use Rattle.from_record.specs.Showing.{is_share, Gathered}
-use Rattle.from_record.specs.Windowed.{without, WindowsOf, window_value, AllGive}
+use Rattle.from_record.specs.Windowed.{without, WindowsOf, window_value, AllGive, NoneGiven}
 use Rattle.from_record.specs.Reading.{FoundIn, own_tests}
 use Rattle.from_record.specs.declared.shown.Shown.{Shown}
 use Rattle.from_record.specs.declared.windows.Windows.{Windows}
@@ -146,25 +146,31 @@ module _ {p n t : ℕ} (M : Modulus p) (P : Parties n t) (log : List ℕ) {x : S
         go (no h) = none_found (omega arith) o
 
     -- by what was looked for
+    pub all_give : {v : ℕ} → (0 < w.count) × AllGive p n t w x.shares v × (v < p) → FoundIn p n t log (Ok v)
+    all_give k = let o = on_one_value k.0 k.1 in (o.0, o.1, k.2)
+
+    pub none_gives : {v : ℕ} → NoneGiven p n t w x.shares v → FoundIn p n t log (Err BadOpening)
+    none_gives k = (refl, no_value k.none)
+
     pub found : (r : Option ℕ) → MatchOption r ((v : ℕ) → 0 < w.count → AllGive p n t w x.shares v → ⊥) (λ v. (0 < w.count) × AllGive p n t w x.shares v × (v < p))
         → FoundIn p n t log (ok_or r BadOpening)
     found None k = (refl, no_value k)
-    found (Some v) k = let o = on_one_value k.0 k.1 in (o.0, o.1, k.2)
+    found (Some v) k = all_give k
 
 -- a number above p
 pub above_p : {p n : ℕ} (t : ℕ) (log : List ℕ) → (((i : ℕ) → i < n → get_or log i 0 ≤ p) → ⊥) → OnOne p n t (opening p n t log) → ⊥
 above_p {p} {n} t log k o = k (λ i l. let a : 1 ≤ suc i = omega arith in rw (share_at p n t log i l) at (o.most (suc i) a l))
 
 -- the own share: it is absent, or the same, or another
-own_absent : {p share : ℕ} (own : ℕ) → share ≡ p → 0 ≡ first_failed (own_tests p own share)
+pub own_absent : {p share : ℕ} (own : ℕ) → share ≡ p → 0 ≡ first_failed (own_tests p own share)
 unfolding first_failed
 own_absent {p} {share} own e = rw (eq-eqb share p e)
 
-own_same : {p own share : ℕ} → (share ≡ p → ⊥) → share ≡ own → 0 ≡ first_failed (own_tests p own share)
+pub own_same : {p own share : ℕ} → (share ≡ p → ⊥) → share ≡ own → 0 ≡ first_failed (own_tests p own share)
 unfolding first_failed
 own_same {p} {own} {share} n e = rw (ne_eqb share p n, eq-eqb share own e)
 
-own_differs : {p own share : ℕ} → (share ≡ p → ⊥) → (share ≡ own → ⊥) → 41 ≡ first_failed (own_tests p own share)
+pub own_differs : {p own share : ℕ} → (share ≡ p → ⊥) → (share ≡ own → ⊥) → 41 ≡ first_failed (own_tests p own share)
 unfolding first_failed
 own_differs {p} {own} {share} n m = rw (ne_eqb share p n, ne_eqb share own m)
 

@@ -1,11 +1,13 @@
 -- The loop over the sets that a byte leaves, and that over what their lowest parties give.
 -- Assumes nothing.
-use mathlib.Core.Path.{◌≡◌, sym, subst, ◌∙◌}
+use mathlib.Core.Path.{◌≡◌, refl, sym, subst, ◌∙◌}
+use mathlib.Core.Logic.{◌≢◌, ◌↔◌}
 use mathlib.Core.Bool.{Bool, true, false}
-use mathlib.Core.List.{List}
-use Prim.Native.Nat.{ℕ, ◌+◌, ◌^◌, ◌≤◌, ◌<◌}
+use mathlib.Core.List.{List, [], ◌∷◌}
+use Prim.Native.Nat.{ℕ, zero, suc, ◌+◌, ◌^◌, ◌≤◌, ◌<◌}
 use native.Mathlib.Decide.{ℕ_discrete}
 use native.Mathlib.Omega.{arith}
+use lib.Dec.{T}
 use lib.ListN.{length, get_or, set, length-set}
 use lib.Seq.{get_or-set_same, get_or-set_other}
 use Rattle.model.specs.Fields.{Modulus, Parties}
@@ -15,9 +17,19 @@ use Rattle.presence.specs.Openings.{WorkedBy}
 use Rattle.presence.specs.declared.Opening.{Opening}
 use Rattle.sharing.specs.Settings.{Fitting}
 use Rattle.sharing.specs.declared.setting.Setting.{Setting}
-use Rattle.from_record.specs.Windowed.{without, WindowsOf, window_value}
+use Rattle.from_record.specs.Windowed.{without, WindowsOf, window_value, AllGive}
 use Rattle.from_record.specs.declared.windows.Windows.{Windows}
 use Rattle.from_record.proofs.Sets.{no_later, none_past}
+
+-- the first six powers of 2
+pub power_at : (z : ℕ) → z < 6 → ◌≡◌ {A = ℕ} (get_or (1 ∷ 2 ∷ 4 ∷ 8 ∷ 16 ∷ 32 ∷ []) z 0) (2 ^ z)
+power_at zero h = refl
+power_at (suc zero) h = refl
+power_at (suc (suc zero)) h = refl
+power_at (suc (suc (suc zero))) h = refl
+power_at (suc (suc (suc (suc zero)))) h = refl
+power_at (suc (suc (suc (suc (suc zero))))) h = refl
+power_at (suc (suc (suc (suc (suc (suc z)))))) h = absurd (omega arith)
 
 -- the test of a set
 pub is_permitted : {n t b : ℕ} {r : Bool} → r ≡ permitted_set n t b → r ≡ true → PermittedSet n t b
@@ -87,3 +99,20 @@ fits S M P ep en et el W =
 -- the sets before z give v
 abbrev pub Given : ℕ → ℕ → ℕ → Windows → List ℕ → ℕ → ℕ → Type 0
 Given p n t w x v z = (i : ℕ) → i < z → window_value p n t w.present x i ≡ v
+
+module _ (p n t : ℕ) (w : Windows) (x : List ℕ) (v : ℕ) where
+  pub given_first : v ≡ window_value p n t w.present x 0 → Given p n t w x v 1
+  given_first e i h = let q : i ≡ 0 = omega arith in rw q (sym e)
+
+  pub given_more : {r : ℕ} (z : ℕ) → Given p n t w x v z → r ≡ window_value p n t w.present x z → r ≡ v → Given p n t w x v (z + 1)
+  given_more {r} z G e q i h = go (ℕ_discrete i z)
+    where
+      go : Dec (i ≡ z) → window_value p n t w.present x i ≡ v
+      go (yes k) = rw k (sym e ∙ q)
+      go (no k) = G i (omega arith)
+
+  pub given_all : (z : ℕ) → Given p n t w x v z → w.count ≤ z → T true ↔ AllGive p n t w x v
+  given_all z G h = (λ _ i l. G i (omega arith), λ _. tt)
+
+  pub given_other : {r : ℕ} (z : ℕ) → z < w.count → r ≡ window_value p n t w.present x z → r ≢ v → T false ↔ AllGive p n t w x v
+  given_other z h e q = (λ t. absurd t, λ k. q (e ∙ k z h))

@@ -26,3 +26,8 @@ window_value p n t present x z = value_from p (openers n t (without present z)) 
 
 abbrev pub AllGive : ℕ → ℕ → ℕ → Windows → List ℕ → ℕ → Type 0
 AllGive p n t w x v = (z : ℕ) → z < w.count → window_value p n t w.present x z ≡ v
+
+-- no value is given by all, and v is what the first gives
+pub record NoneGiven (p n t : ℕ) (w : Windows) (x : List ℕ) (v : ℕ) : Type 0 where
+  pub none : (u : ℕ) → 0 < w.count → AllGive p n t w x u → ⊥
+  pub first : 0 < w.count → v ≡ window_value p n t w.present x 0

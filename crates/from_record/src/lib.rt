@@ -47,8 +47,8 @@ pub fn reader_for(field: usize, n: usize, t: usize, party: usize, log: &[u32]) -
     }
 }
 
-// Who is present at the first opening of a record. A record without one, or with a number above p in it, is refused wherever it is read, so that
-// everyone will do.
+// Who is present at the first opening of a record. A record without one, or with a number above p in it, is refused wherever it is read: nobody will do,
+// for whom no weight is worked out.
 fn first_present(p: u32, n: usize, log: &[u32]) -> u32
     requires { (0 < p) × (n ≤ 7) }
     ensures { result < 2 ^ n }
@@ -58,7 +58,7 @@ fn first_present(p: u32, n: usize, log: &[u32]) -> u32
     {
         return shown.present;
     }
-    u32::from(presence::everyone(n))
+    0
 }
 
 // The reader's windows, or those of another set.
@@ -81,9 +81,10 @@ fn value_of(reader: Reader, shown: Shown) -> Result<u32, Refusal>
 {
     let windows = windows_for(reader, shown.present);
     let shares = shown.shares;
-    windows::value_of_all(reader.p, reader.n, reader.t, windows, Row { shares }).ok_or(
-        Refusal::BadOpening,
-    )
+    match windows::value_of_all(reader.p, reader.n, reader.t, windows, Row { shares }) {
+        Ok(value) => Ok(value),
+        Err(_) => Err(Refusal::BadOpening),
+    }
 }
 
 // Before these "a number is above p": 42 too.

@@ -1,8 +1,8 @@
 // Whether the shares of those present are on one polynomial: every t + 1 of them that are neighbours in the order of parties give the same value.
-ghost use Rattle.std.specs.Prelude.{◌≡◌, ℕ, ◌+◌, ◌^◌, ◌<◌, MatchOption};
+ghost use Rattle.std.specs.Prelude.{◌≡◌, ◌+◌, ◌^◌, ◌<◌, MatchResult};
 ghost use Rattle.algebra.specs.Lists as Lists;
 ghost use Rattle.model.specs.Fields as Fields;
-ghost use Rattle.from_record.specs.Windowed.{without, WindowsOf, window_value, AllGive};
+ghost use Rattle.from_record.specs.Windowed.{without, WindowsOf, window_value, AllGive, NoneGiven};
 
 use presence::Opening;
 use secret::Row;
@@ -66,19 +66,19 @@ fn value_at(p: u32, n: usize, t: usize, windows: Windows, z: usize, row: Row) ->
     opening::opened_value(setting, row)
 }
 
-// The value that all of them give, if there is one.
-pub fn value_of_all(p: u32, n: usize, t: usize, windows: Windows, row: Row) -> Option<u32>
+// The value that all of them give, if there is one; else that of the first, or 0 where there is none.
+pub fn value_of_all(p: u32, n: usize, t: usize, windows: Windows, row: Row) -> Result<u32, u32>
     requires { Fields.Modulus p × Fields.Parties n t × WindowsOf p n t windows × Lists.Below p row.shares }
-    ensures { MatchOption result ((v : ℕ) → 0 < windows.count → AllGive p n t windows row.shares v → ⊥) (λ v. (0 < windows.count) × AllGive p n t windows row.shares v × (v < p)) }
+    ensures { MatchResult result (λ v. (0 < windows.count) × AllGive p n t windows row.shares v × (v < p)) (λ v. NoneGiven p n t windows row.shares v × (v < p)) }
 {
     if windows.count == 0 {
-        return None;
+        return Err(0);
     }
     let value = value_at(p, n, t, windows, 0, row);
     for z in 1..windows.count {
         if value_at(p, n, t, windows, z, row) != value {
-            return None;
+            return Err(value);
         }
     }
-    Some(value)
+    Ok(value)
 }
