@@ -14,20 +14,20 @@ abbrev pub rest : ℕ → ℕ → ℕ → List ℕ
 rest b w i = from (b + i) (w - i)
 
 module _ (b w : ℕ) where
-  start : rest b w 0 ≡ from b w
+  pub start : rest b w 0 ≡ from b w
   start =
       let e : b + 0 ≡ b = omega arith in
       let k : w - 0 ≡ w = omega arith in
       rw (e, k)
 
-  turn : (i : ℕ) → i < w → rest b w i ≡ (b + i) ∷ rest b w (i + 1)
+  pub turn : (i : ℕ) → i < w → rest b w i ≡ (b + i) ∷ rest b w (i + 1)
   unfolding from
   turn i h =
       let e : w - i ≡ suc (w - (i + 1)) = omega arith in
       let k : b + (i + 1) ≡ suc (b + i) = omega arith in
       rw (e, k)
 
-  end : (i : ℕ) → w ≤ i → rest b w i ≡ []
+  pub end : (i : ℕ) → w ≤ i → rest b w i ≡ []
   unfolding from
   end i h = let e : w - i ≡ 0 = omega arith in rw e
 

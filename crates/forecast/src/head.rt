@@ -87,7 +87,7 @@ fn wrong_length(head: &[u8], f: Frame)
 
 // 4 for the length, or by the script.
 #[tactic(auto, using(forecasting::proofs::Heads::bounds))]
-pub fn accepted(head: &[u8], f: Frame, found: Foreseen)
+pub fn accepted(head: &[u8], f: Frame, found: Foreseen<Refusal>)
     requires { Headed (header_of head.now) f }
 {
     let end = f.input;

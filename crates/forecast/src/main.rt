@@ -15,7 +15,7 @@ ghost use Rattle.forecasting.specs.Forecasting.{foreseen_of};
 ghost use Rattle.forecast.specs.Taken.{taken};
 
 use forecasting::lines::Foreseen;
-use refusals::number;
+use refusals::{Refusal, number};
 use report::text::line;
 use sheet::header;
 
@@ -47,14 +47,14 @@ fn tell(input: &[u8]) {
 
 // The forecast of what is taken of the input: header and script of a whole sheet, else all.
 #[tactic(auto, using(crate::proofs::Taking::part_length, crate::proofs::Taking::of_part))]
-fn foresee_taken(input: &[u8]) -> Foreseen
+fn foresee_taken(input: &[u8]) -> Foreseen<Refusal>
     ensures { foreseen_of result ≡ Paper.foreseen (taken input.now) }
 {
     let size = cutting::head_length(input);
     forecasting::foresee(&input[..size])
 }
 
-fn explain(head: &[u8], found: Foreseen) {
+fn explain(head: &[u8], found: Foreseen<Refusal>) {
     match header::read_header(head) {
         Ok(f) => head::accepted(head, f, found),
         Err(refusal) => head::refused(head, refusal),

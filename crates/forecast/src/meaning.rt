@@ -10,7 +10,7 @@ use report::text::{line, put};
 use script::decode;
 use sheet::frame::Frame;
 
-pub fn explain(f: Frame, script: &[u8], found: Foreseen)
+pub fn explain(f: Frame, script: &[u8], found: Foreseen<Refusal>)
     requires { (f.l ≤ 31) × (f.largest ≤ 30) }
 {
     match found.ended {

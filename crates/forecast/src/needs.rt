@@ -34,7 +34,7 @@ pub fn there(f: Frame) -> Counts {
 }
 
 #[tactic(auto, using(script::proofs::Lines::in_range_lem))]
-pub fn missing(f: Frame, script: &[u8], found: Foreseen)
+pub fn missing(f: Frame, script: &[u8], found: Foreseen<Refusal>)
     requires { (f.l ≤ 31) × (f.largest ≤ 30) }
 {
     let at = found.place;

@@ -30,7 +30,7 @@ use Rattle.forecasting.specs.declared.lines.Foreseen.{Foreseen}
 use Rattle.forecasting.specs.Forecasting.{foreseen_of, Foresees, by_length}
 
 -- a script that 9 to 11 refuse
-pub script_refused : (f : Frame) (script : List ℕ) (supply : Counts) (e : Refused) (r : Foreseen) → number_of e.refusal ≡ script_number (script_of f.p f.largest script)
+pub script_refused : (f : Frame) (script : List ℕ) (supply : Counts) (e : Refused) (r : Foreseen Refusal) → number_of e.refusal ≡ script_number (script_of f.p f.largest script)
     → e.place ≡ script_place (script_of f.p f.largest script) → foreseen_of r ≡ nothing_foreseen (number_of e.refusal) e.place → Foresees f script supply r
 unfolding script_foreseen
 script_refused f script supply e r a b q u U = q ∙ go (script_of f.p f.largest script) a b
@@ -46,7 +46,7 @@ module _ (s : List ℕ) {f : Frame} (H : Headed (header_of s) f) where
   pub bounds : (f.l ≤ 31) × (f.largest ≤ 30)
   bounds = let F = header_field h H.in_use in rw (H.l_is, H.k_is) (omega (arith, F.k_most, F.k_is), omega (arith, F.k_most))
 
-  pub right_length : {supply : Counts} (r : Foreseen) → length s ≡ f.input → Supplied (supply_in f 10850 511) supply
+  pub right_length : {supply : Counts} (r : Foreseen Refusal) → length s ≡ f.input → Supplied (supply_in f 10850 511) supply
       → Foresees f (script_part s f) supply r → foreseen_of r ≡ by_length s
   unfolding head_length_tests first_failed
   right_length r e U R =
@@ -54,7 +54,7 @@ module _ (s : List ℕ) {f : Frame} (H : Headed (header_of s) f) where
       let l : length s ≡ inputs_at h = omega (arith, e, H.inputs_place, H.script_is) in
       rw (eq-eqb (length s) (inputs_at h) l) (q ∙ rw (script_read s H, H.l_is, H.inputs_is, H.masks_is, H.triples_is, H.n_is) refl)
 
-  pub other_length : (r : Foreseen) → length s ≢ f.input → foreseen_of r ≡ nothing_foreseen 4 0 → foreseen_of r ≡ by_length s
+  pub other_length : (r : Foreseen Refusal) → length s ≢ f.input → foreseen_of r ≡ nothing_foreseen 4 0 → foreseen_of r ≡ by_length s
   unfolding head_length_tests first_failed
   other_length r z q =
       let l : length s ≢ inputs_at h = λ e. z (omega (arith, e, H.inputs_place, H.script_is)) in
@@ -82,6 +82,6 @@ module _ (s : List ℕ) where
       q ∙ rw (in_order s, ← n) (sym (given_refused (number_of r) _ _ z))
 
 -- number and place of what is foreseen
-pub answer_is : (s : List ℕ) (r : Foreseen) {number : ℕ} → foreseen_of r ≡ foreseen s → told r.ended ≡ number → record { number = number; place = r.place } ≡ forecast s
+pub answer_is : (s : List ℕ) (r : Foreseen Refusal) {number : ℕ} → foreseen_of r ≡ foreseen s → told r.ended ≡ number → record { number = number; place = r.place } ≡ forecast s
 unfolding forecast
 answer_is s r e q = rw (← q) (ap (λ (x : Paper.Foreseen). record { number = x.number; place = x.place }) e)

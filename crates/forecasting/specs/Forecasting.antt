@@ -1,6 +1,7 @@
 -- The code's forecasts as the definition's.
 -- Assumes nothing.
-use Rattle.std.specs.Prelude.{◌≡◌, List, [], ℕ, Result}
+use Rattle.std.specs.Prelude.{◌≡◌, List, [], ℕ, Ok, Err, Result}
+use Rattle.refusals.specs.declared.Refusal.{Refusal}
 use Rattle.refusals.specs.declared.Refused.{Refused}
 use Rattle.refusals.specs.Numbers.{told}
 use Rattle.model.specs.Refusing.{first_failed, given}
@@ -18,11 +19,19 @@ use Rattle.forecasting.specs.declared.lines.Foreseen.{Foreseen}
 abbrev pub answer_of : Result ℕ Refused → Paper.Forecast
 answer_of r = record { number = number_told r; place = place_told r }
 
-abbrev pub foreseen_of : Foreseen → Paper.Foreseen
+abbrev pub foreseen_of : Foreseen Refusal → Paper.Foreseen
 foreseen_of r = record { number = told r.ended; place = r.place; spent = spent_of r.spent; registers = [] }
 
+-- the same of one that any number stopped
+abbrev pub number_by : {A : Type 0} → Result A ℕ → ℕ
+number_by (Ok _) = 0
+number_by (Err number) = number
+
+abbrev pub stopped_of : Foreseen ℕ → Paper.Foreseen
+stopped_of r = record { number = number_by r.ended; place = r.place; spent = spent_of r.spent; registers = [] }
+
 -- what a script comes to with any supply that these counts are of
-abbrev pub Foresees : Frame → List ℕ → Counts → Foreseen → Type 0
+abbrev pub Foresees : Frame → List ℕ → Counts → Foreseen Refusal → Type 0
 Foresees f script supply r =
     (u : Supply) → Supplied u supply → foreseen_of r ≡ Paper.script_foreseen f.l u (script_of f.p f.largest script)
 

@@ -35,7 +35,7 @@ pub fn forecast(head: &[u8]) -> Result<usize, Refused>
 }
 
 // The same, with what the commands before the place spend and set.
-pub fn foresee(head: &[u8]) -> Foreseen
+pub fn foresee(head: &[u8]) -> Foreseen<Refusal>
     ensures { foreseen_of result ≡ Paper.foreseen head.now }
 {
     match header::read_header(head) {
@@ -45,7 +45,7 @@ pub fn foresee(head: &[u8]) -> Foreseen
 }
 
 // 4 where the input is not "exactly the header and the script length that it names"; else by the script, which ends where a sheet's input rows start.
-fn by_length(head: &[u8], f: Frame) -> Foreseen
+fn by_length(head: &[u8], f: Frame) -> Foreseen<Refusal>
     requires { Headed (header_of head.now) f }
     ensures { foreseen_of result ≡ by_length head.now }
 {
