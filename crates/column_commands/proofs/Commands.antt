@@ -35,7 +35,7 @@ use Rattle.column_steps.specs.Reads.{table_of, own_of, Working, Standing, deal_f
 use Rattle.column_steps.specs.Remainders.{KM}
 use Rattle.column_steps.specs.Cutting.{cut_tree}
 use Rattle.column_commands.specs.declared.own.Own.{Own}
-use Rattle.column_commands.specs.Does.{ahead_of, price_of, Ready, Finishes, Does, Storing, Reveals}
+use Rattle.column_commands.specs.Does.{ahead_of, Reached, price_of, Ready, Finishes, Does, Storing, Reveals}
 use Rattle.column_commands.specs.Signing.{past_signs, SignsCome}
 
 -- where a column goes on after nothing was spent but inputs, after n triples, after a mask and n triples, and after h masks with n triples each
@@ -61,6 +61,15 @@ module _ (o : Own) (k : Counts) where
       rw (a, b, c)
 
 module _ (o : Own) (part log : List ℕ) (k : Counts) where
+  -- what stands at the next places
+  pub reached : {c : Command} → Ready o part log k c → length part < 2 ^ 64 → Reached o k
+  reached {c} R h =
+      record {
+        bits = R.working.fitting.bits;
+        mask = omega (arith, R.masks);
+        triple = omega (arith, R.triples);
+      }
+
   standing_at : {c : Command} (m t : ℕ) → Ready o part log k c → m ≡ (price_of o c).masks → t ≡ (price_of o c).triples → Standing o.column part log (ahead_of o k) m t
   standing_at m t R em et =
       rw (em, et) (record { masks = omega (arith, R.masks); triples = omega (arith, R.triples); openings = R.openings })

@@ -2,7 +2,7 @@
 -- Assumes nothing.
 use mathlib.Core.Path.{◌≡◌, refl, sym, ap, subst, ◌∙◌}
 use mathlib.Core.List.{List}
-use Prim.Native.Nat.{ℕ, suc, ◌+◌, ◌-◌, ◌*◌, ◌≤◌, ◌<◌}
+use Prim.Native.Nat.{ℕ, suc, ◌+◌, ◌-◌, ◌*◌, ◌^◌, ◌≤◌, ◌<◌}
 use native.Mathlib.Omega.{arith}
 use lib.ListN.{length, get_or, set}
 use Rattle.algebra.specs.Lists.{onto_at}
@@ -17,9 +17,46 @@ use Rattle.registers.specs.Cells.{register_in}
 use Rattle.registers.proofs.Cells.{get_seven, set_seven}
 use Rattle.column_steps.specs.declared.column.Column.{Column}
 use Rattle.column_steps.specs.declared.column.Ahead.{Ahead}
-use Rattle.column_steps.specs.Reads.{Working, Standing, read_from, ComesTo, Stops}
+use Rattle.column_steps.specs.Reads.{Working, Standing, read_from, Comes, past, past_mask, ComesTo, Stops}
 use Rattle.column_steps.specs.Cutting.{cut_tree}
+use Rattle.column_steps.proofs.Opening.{counts_on}
 use Rattle.column_commands.specs.Signing.{past_signs, signs_tree, SignsTo, SignsStop}
+use Rattle.std.specs.Prelude.{Result}
+use Rattle.secret.specs.declared.Row.{Row as Shares}
+
+-- past one sign, as a cut has it
+one_sign : (c : Column) (k : ℕ) (at : Ahead) → past (past_mask c.setting.l at) (mod_triples c.setting.l (k - 1)) ≡ past_signs c k at 1
+one_sign c k at =
+    let n = mod_triples c.setting.l (k - 1) in
+    let a : at.mask + 4 * c.setting.l ≡ at.mask + 1 * (4 * c.setting.l) = omega arith in
+    let b : at.triple + 12 * n ≡ at.triple + 12 * (1 * n) = omega arith in
+    let e : at.opening + 1 + 2 * n ≡ at.opening + 1 * (1 + 2 * n) = omega arith in
+    rw (a, b, e)
+
+-- the same by its numbers
+pub sign_past : (c : Column) (k : ℕ) (at : Ahead)
+    → record { mask = at.mask + 4 * c.setting.l; triple = at.triple + 12 * mod_triples c.setting.l (k - 1); opening = at.opening + (1 + 2 * mod_triples c.setting.l (k - 1)) }
+    ≡ past_signs c k at 1
+sign_past c k at =
+    let n = mod_triples c.setting.l (k - 1) in
+    let a : at.mask + 4 * c.setting.l ≡ at.mask + 1 * (4 * c.setting.l) = omega arith in
+    let b : at.triple + 12 * n ≡ at.triple + 12 * (1 * n) = omega arith in
+    let e : at.opening + (1 + 2 * n) ≡ at.opening + 1 * (1 + 2 * n) = omega arith in
+    rw (a, b, e)
+
+pub sign_comes : (c : Column) (part log : List ℕ) (at : Ahead) (k : ℕ) {x y : Row} (r : Result Shares Refusal) → x ≡ y
+    → Comes c part log at (past (past_mask c.setting.l at) (mod_triples c.setting.l (k - 1))) 1 (mod_triples c.setting.l (k - 1)) (cut_tree c (Ltz k) x) r
+    → Comes c part log at (past_signs c k at 1) 1 (mod_triples c.setting.l (k - 1)) (cut_tree c (Ltz k) y) r
+sign_comes c part log at k {x} {y} r e C =
+    subst (λ (v : Ahead). Comes c part log at v 1 (mod_triples c.setting.l (k - 1)) (cut_tree c (Ltz k) y) r) (one_sign c k at) (rw e at C)
+
+no_sign : (c : Column) (k : ℕ) (at : Ahead) → at ≡ past_signs c k at 0
+no_sign c k at =
+    let n = mod_triples c.setting.l (k - 1) in
+    let a : at.mask + 0 * (4 * c.setting.l) ≡ at.mask = omega arith in
+    let b : at.triple + 12 * (0 * n) ≡ at.triple = omega arith in
+    let e : at.opening + 0 * (1 + 2 * n) ≡ at.opening = omega arith in
+    rw (a, b, e)
 
 more_signs : (c : Column) (k : ℕ) (at : Ahead) (i : ℕ) → past_signs c k (past_signs c k at i) 1 ≡ past_signs c k at (i + 1)
 more_signs c k at i =
@@ -40,6 +77,12 @@ pub record Signed (c : Column) (part log : List ℕ) (at : Ahead) (d a h k : ℕ
       ≡ read_from c part log next (turns + M) (turns * mod_triples c.setting.l (k - 1) + T) (signs_tree c k (sevens 64 cells) (a + i) turns (d + i) (sevens 64 cells') go)
 
 module _ {c : Column} (W : Working c) {part log : List ℕ} {at : Ahead} {d a h k : ℕ} {cells : List ℕ} where
+  pub signed_start : Standing c part log at h (h * mod_triples c.setting.l (k - 1)) → Signed c part log at d a h k cells 0 at cells
+  signed_start S =
+      let e : a + 0 ≡ a = omega arith in
+      let f : d + 0 ≡ d = omega arith in
+      record { turns = h; count = omega arith; places = no_sign c k at; standing = S; whole = λ M T go. rw (e, f) }
+
   module _ {i : ℕ} {next : Ahead} {cells' : List ℕ} (C : Signed c part log at d a h k cells i next cells') (less : i < h) where
     abbrev n : ℕ
     n = mod_triples c.setting.l (k - 1)
@@ -49,6 +92,14 @@ module _ {c : Column} (W : Working c) {part log : List ℕ} {at : Ahead} {d a h 
 
     here : Standing c part log next (suc (C.turns - 1)) (suc (C.turns - 1) * n)
     here = rw one_turn at C.standing
+
+    pub turn_standing : Standing c part log next 1 n
+    turn_standing =
+        record {
+          masks = omega (arith, here.masks);
+          triples = omega (arith, here.triples);
+          openings = C.standing.openings;
+        }
 
     module _ (aa : a + i < 64) where
       turn_at : (t M T : ℕ) (go : List Row → Tree Row (List Row))
@@ -118,3 +169,9 @@ module _ {c : Column} (W : Working c) {part log : List ℕ} {at : Ahead} {d a h 
             C.whole M T go ∙ rw (z, x, y) (ap (λ (v : Ahead). read_from c part log v M T (go (sevens 64 cells'))) p);
         there = subst (λ (v : Ahead). c.reader.n * v.opening ≤ length log) p C.standing.openings;
       }
+
+-- the places past a sign are numbers of the code
+pub sign_ahead : {c : Column} (W : Working c) {part log : List ℕ} (next : Ahead) (k : ℕ) → Standing c part log next 1 (mod_triples c.setting.l (k - 1))
+    → c.reader.n * (past_signs c k next 1).opening ≤ length log → length part < 2 ^ 64 → length log < 2 ^ 64
+    → ((past_signs c k next 1).mask < 2 ^ 64) × ((past_signs c k next 1).triple < 2 ^ 64) × ((past_signs c k next 1).opening < 2 ^ 64)
+sign_ahead {c} W {log = log} next k S l hp hl = (omega (arith, S.masks), omega (arith, S.triples), counts_on log (past_signs c k next 1).opening W l hl)

@@ -39,7 +39,7 @@ pub record Kept (t : Table) (d : ℕ) (row : Row) (t' : Table) : Type 0 where
   pub spent : t'.spent ≡ t.spent
 
 -- what a step came to: its row goes to register d
-abbrev pub Stores : Table → ℕ → Result Shares Refusal → Result Table Refusal → Type 0
+abbrev pub Stores : {E : Type 0} → Table → ℕ → Result Shares E → Result Table E → Type 0
 Stores t d made r = MatchResult r (λ t'. (row : Shares) × (made ≡ Ok row) × Kept t d row.shares t') (λ e. made ≡ Err e)
 
 -- what the command costs

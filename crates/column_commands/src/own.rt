@@ -8,7 +8,6 @@ ghost use Rattle.column_commands.specs.Does.{ahead_of, Reached, Stores};
 
 use column_steps::column::{Ahead, Column};
 use costs::counts::Counts;
-use refusals::Refusal;
 use registers::table::Table;
 use secret::Row;
 use sharing::rows;
@@ -37,9 +36,9 @@ pub fn ahead_of(own: Own, spent: Counts) -> Ahead
     }
 }
 
-// What a step came to: a row goes to register d.
+// What a step came to: a row goes to register d. In place of a row, a step has a refusal; here it may have anything.
 #[inline(never)]
-pub fn stored(table: Table, d: usize, made: Result<Row, Refusal>) -> Result<Table, Refusal>
+pub fn stored<E>(table: Table, d: usize, made: Result<Row, E>) -> Result<Table, E>
     requires { d < 64 }
     ensures { Stores table d made result }
 {
