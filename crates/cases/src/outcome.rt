@@ -9,7 +9,7 @@ use report::text::{Spaced, line};
 pub fn outcome(answer: Answer, log: &[u32], revealed: &[u32]) {
     let spent = answer.table.spent;
     let cells = answer.table.cells;
-    lines::end(answer.ended, answer.place, spent.counts);
+    lines::end(refusals::number(&answer.ended), answer.place, spent.counts);
     registers(spent.marks, &cells);
     line(format_args!("rest {}", blanks(spent.marks, &cells)));
     line(format_args!("record{}", Spaced(log)));

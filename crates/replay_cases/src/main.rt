@@ -67,7 +67,7 @@ fn replay_lists(party: u32, head: &[u8], part: &[u8], numbers: usize, s: &[u8])
 
 // What a replay yields: the end, how many values were revealed, and all cells.
 fn outcome(answer: Answer) {
-    lines::end(answer.ended, answer.place, answer.counts);
+    lines::end(refusals::number(&answer.ended), answer.place, answer.counts);
     line(format_args!("revealed {}", answer.counts.revealed));
     line(format_args!("cells{}", Spaced(&answer.cells[..])));
 }

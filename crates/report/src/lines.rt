@@ -1,17 +1,16 @@
 // The paper's lines of a run. What is lent has all the numbers that are to be printed, so that no line is left out.
 ghost use Rattle.std.specs.Prelude.{◌*◌, ◌≤◌, length};
 
-use crate::text::{Spaced, line};
+use crate::text::{Spaced, bytes, line};
 use costs::counts::Counts;
-use refusals::Refusal;
 
 // A line for each row of n numbers, each after the text: so many rows from the start of the list.
-pub fn rows(text: &str, n: usize, many: usize, xs: &[u32])
+pub fn rows(text: &[u8], n: usize, many: usize, xs: &[u32])
     requires { many * n ≤ length xs.now }
 {
     for i in 0..many {
-        let row = Spaced(&xs[i * n..(i + 1) * n]);
-        line(format_args!("{text}{row}"));
+        bytes(text);
+        line(Spaced(&xs[i * n..(i + 1) * n]));
     }
 }
 
@@ -19,7 +18,7 @@ pub fn rows(text: &str, n: usize, many: usize, xs: &[u32])
 pub fn opened(n: usize, openings: usize, log: &[u32])
     requires { openings * n ≤ length log.now }
 {
-    rows("opened", n, openings, log);
+    rows(b"opened", n, openings, log);
 }
 
 // A line for each revealed value: so many from the start of the list.
@@ -33,10 +32,9 @@ pub fn revealed(field: u32, values: usize, xs: &[u32])
 }
 
 // The last line: number, place and counts.
-pub fn end(ended: Result<(), Refusal>, place: usize, spent: Counts) {
-    let number = refusals::number(&ended);
+pub fn end(answer: u32, place: usize, spent: Counts) {
     line(format_args!(
-        "end {number} at {place} inputs {} masks {} triples {} openings {}",
+        "end {answer} at {place} inputs {} masks {} triples {} openings {}",
         spent.inputs, spent.masks, spent.triples, spent.openings,
     ));
 }

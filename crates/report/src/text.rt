@@ -8,11 +8,15 @@ const STDOUT_FILENO: i32 = 1;
 struct Output;
 
 impl Write for Output {
-    // A write that fails is passed over: what follows is written all the same.
     fn write_str(&mut self, s: &str) -> fmt::Result {
-        let _ = io::write_all(STDOUT_FILENO, s.as_bytes());
+        bytes(s.as_bytes());
         Ok(())
     }
+}
+
+// Bytes as they are. A write that fails is passed over: what follows is written all the same.
+pub fn bytes(text: &[u8]) {
+    let _ = io::write_all(STDOUT_FILENO, text);
 }
 
 pub fn put<D: Display + Drop>(text: D) {

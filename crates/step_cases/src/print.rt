@@ -39,6 +39,6 @@ pub fn answer(s: &[u8], n: usize, row: Row, part: &[u32], openings: usize)
     requires { (40 ≤ length s.now) × (n ≤ 7) × (openings * n ≤ length part.now) }
 {
     arguments(s);
-    lines::rows(" : left", n, 1, &row.shares[..]);
+    lines::rows(b" : left", n, 1, &row.shares[..]);
     lines::opened(n, openings, part);
 }

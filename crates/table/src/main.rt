@@ -12,7 +12,6 @@ ghost use Rattle.table.specs.Ample.{Everyone, Ample};
 use costs::counts::Counts;
 use machine::run;
 use machine::run::Answer;
-use refusals::number;
 use report::lines;
 use report::text::line;
 use sheet::header;
@@ -52,10 +51,11 @@ fn run_lent(s: &[u8], log: &mut [u32], revealed: &mut [u32])
 {
     let answer = run_ample(s, log, revealed);
     let spent = answer.table.spent;
-    if is_run(number(&answer.ended)) {
+    let number = refusals::number(&answer.ended);
+    if is_run(number) {
         run_lines(s, spent.counts, log, revealed);
     }
-    lines::end(answer.ended, answer.place, spent.counts);
+    lines::end(number, answer.place, spent.counts);
 }
 
 // "Program `table` takes everyone as present": the byte for the header's n. Where there is no such n, 1, 2 or 3 refuses, whatever the byte is.
