@@ -63,6 +63,13 @@ below_rows p part i (suc count) =
     further : (j : ℕ) → i + 4 * 1 + 4 * j ≡ i + 4 * suc j
     further j = omega arith
 
+-- "a party number not from 1 to n"
+pub none_seated : (j n : ℕ) → j < 1 → false ≡ (leb 1 j && leb j n)
+none_seated j n h = sym (rw (is_false (leb 1 j) (λ t. omega (arith, leb→le 1 j t))) refl)
+
+pub some_seated : (j n m : ℕ) → 1 ≤ j → m ≡ n → leb j m ≡ (leb 1 j && leb j n)
+some_seated j n m h e = rw (is_true (leb 1 j) (le→leb 1 j h), e)
+
 -- the tests before the run, in their order: after 1, 2 and 3
 pub record Seated (j : ℕ) (head : List ℕ) : Type 0 where
   pub header : 0 ≡ first_failed (header_tests head)

@@ -70,6 +70,12 @@ own_in (suc w) cells (suc r) h =
     let e : 7 * suc r ≡ 7 + 7 * r = omega arith in
     rw e (sym (get_or-drop 7 cells (7 * r) 0) ∙ own_in w (drop 7 cells) r (omega arith))
 
+pub own_at : (cells : List ℕ) (r : ℕ) → r < 64 → get_or cells (7 * r) 0 ≡ get_or (map own_share (sevens 64 cells)) r 0
+own_at cells r h = own_in 64 cells r h
+
+pub own_length : (cells : List ℕ) → 64 ≤ length (map own_share (sevens 64 cells))
+own_length cells = rw (length_own 64 cells) (omega arith)
+
 pub own_each : (cells own : List ℕ) → length own ≡ 64 → ((r : ℕ) → r < 64 → get_or own r 0 ≡ get_or cells (7 * r) 0) → own ≡ map own_share (sevens 64 cells)
 own_each cells own e each =
     let n : length own ≡ length (map own_share (sevens 64 cells)) = e ∙ sym (length_own 64 cells) in
