@@ -54,7 +54,7 @@ module _ (s : List ℕ) (room : ℕ) where
 
   -- 4 for the length, then 15
   module _ (e : 0 ≡ first_failed (header s)) where
-    lengths_decide : {n : ℕ} → n ≡ first_failed lengths → n ≡ first_failed (turn_tests s room)
+    pub lengths_decide : {n : ℕ} → n ≡ first_failed lengths → n ≡ first_failed (turn_tests s room)
     lengths_decide k = rw all_tests (passed_first (header s) lengths (header_tests_numbered s) e k)
 
     pub length_wrong : false ≡ eqb (length s) (implied_length (header_of s)) → 4 ≡ first_failed (turn_tests s room)

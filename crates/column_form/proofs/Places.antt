@@ -24,6 +24,9 @@ module _ {G : Grid} {rows parties size : ℕ} (fits : Fits G rows parties size) 
   pub fits_on : (i k : ℕ) → i + k ≤ rows → Fits (further_on (G.down * i) G) k parties size
   fits_on i k h = record { last = omega (arith, fits.last, steps_le G.down h); steps = fits.steps; most = fits.most }
 
+  pub fits_party : (j : ℕ) → j < parties → Fits (further_on (G.across * j) G) rows 1 size
+  fits_party j h = record { last = omega (arith, fits.last, steps_le G.across h); steps = fits.steps; most = fits.most }
+
 -- two numbers, by their order
 pub data Order (a b : ℕ) : Type 0 where
   below : a < b → Order a b

@@ -56,3 +56,6 @@ module _ {c : Column} {part log : List ℕ} {at : Ahead} where
   -- standing past a step
   pub standing_past : {m : ℕ} (j k : ℕ) → Standing c part log at m (j + k) → c.reader.n * (past at j).opening ≤ length log → Standing c part log (past at j) m k
   standing_past j k S l = record { masks = S.masks; triples = omega (arith, S.triples); openings = l }
+
+  pub standing_first : {m : ℕ} (j k : ℕ) → Standing c part log at m (j + k) → Standing c part log at 0 j
+  standing_first j k S = record { masks = omega (arith, S.masks); triples = omega (arith, S.triples); openings = S.openings }

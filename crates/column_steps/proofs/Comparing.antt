@@ -3,7 +3,7 @@
 use mathlib.Core.Path.{◌≡◌, ap, subst, ◌∙◌}
 use mathlib.Core.Bool.{cond}
 use mathlib.Core.List.{List}
-use Prim.Native.Nat.{ℕ, suc, ◌+◌, ◌-◌, ◌*◌, ◌/◌, ◌≤◌, ◌<◌}
+use Prim.Native.Nat.{ℕ, suc, ◌+◌, ◌-◌, ◌*◌, ◌/◌, ◌^◌, ◌≤◌, ◌<◌}
 use native.Mathlib.Omega.{arith}
 use lib.ListN.{length, take, drop}
 use lib.Seq.{drop-drop}
@@ -17,7 +17,8 @@ use Rattle.column_steps.specs.declared.column.Column.{Column}
 use Rattle.column_steps.specs.declared.column.Ahead.{Ahead}
 use Rattle.refusals.specs.declared.Refusal.{Refusal}
 use Rattle.column_steps.specs.Reads.{own_of, Working, Standing, read_from, ComesTo, Stops, past, compared}
-use Rattle.column_steps.proofs.Coming.{standing_past}
+use Rattle.column_steps.proofs.Opening.{counts_on}
+use Rattle.column_steps.proofs.Coming.{standing_first, standing_past}
 
 -- what BITLT does from bit k on, with so many bits left
 abbrev from_bit : Column → List ℕ → ℕ → ℕ → ℕ → Row → (Row → Tree Row (List Row)) → Tree Row (List Row)
@@ -73,6 +74,9 @@ module _ {c : Column} (W : Working c) {part log : List ℕ} {v w : ℕ} {bits : 
     here : Standing c part log next 0 (1 + (C.turns - 1))
     here = rw one_turn at C.standing
 
+    pub turn_standing : Standing c part log next 0 1
+    turn_standing = standing_first 1 (C.turns - 1) here
+
     module _ {bit : Row} (eb : bit ≡ take 7 (drop (7 * k) bits)) where
       -- a turn, by what its product came to
       turn : (M T : ℕ) (go : Row → Tree Row (List Row))
@@ -108,6 +112,11 @@ module _ {c : Column} (W : Working c) {part log : List ℕ} {v w : ℕ} {bits : 
               → read_from c part log (past next 1) M (C.turns - 1 + T) (from_bit c bits (k + 1) (C.turns - 1) (rest / 2) (chosen (own_of c) (odd rest) bit lt q) go)
               ≡ read_from c part log next' (0 + M) (C.turns - 1 + T) (from_bit c bits (k + 1) (C.turns - 1) (rest / 2) lt' go)
           more M T go = let z : 0 + M ≡ M = omega arith in rw (el, en, z, W.own)
+
+    -- the place behind it is a number of the code
+    pub turn_ahead : (q : ℕ) → q ≡ 0 → (q ≡ 0 → c.reader.n * (next.opening + 2 * 1) ≤ length log) → length part < 2 ^ 64 → length log < 2 ^ 64
+        → (next.triple + 12 * 1 < 2 ^ 64) × (next.opening + 2 * 1 < 2 ^ 64)
+    turn_ahead q z l hp hl = (omega (arith, turn_standing.triples), counts_on log (next.opening + 2 * 1) W (l z) hl)
 
   pub comparing_end : {lt : Row} {rest : ℕ} {next : Ahead} {k : ℕ} → Comparing c part log v w bits at lt rest next k → w ≤ k
       → ComesTo c part log at (past at (w - 1)) 0 (w - 1) (compared c v (sevens w bits)) lt

@@ -3,7 +3,8 @@
 use mathlib.Core.Path.{◌≡◌, sym, ap, ◌∙◌}
 use mathlib.Core.Bool.{true}
 use mathlib.Core.List.{List}
-use Prim.Native.Nat.{ℕ, ◌+◌, ◌*◌, ◌≤◌, ◌<◌}
+use Prim.Native.Nat.{ℕ, ◌+◌, ◌*◌, ◌^◌, ◌≤◌, ◌<◌}
+use native.Mathlib.Nat.{mul-le-mul_right}
 use native.Mathlib.Omega.{arith}
 use lib.Dec.{leb, leb→le}
 use lib.ListN.{length, drop, length-drop}
@@ -49,3 +50,10 @@ module _ {c : Column} (W : Working c) (log : List ℕ) (read : ℕ) (x : Row) wh
       }
   opens_next (Err refusal) e h =
       record { reads = λ go. rw (← W.same_p, ← e) (given_refused (number_of refusal) _ _ (λ z. omega (arith, numbered_above refusal))) }
+
+-- an opening that is there has a place that is a number of the code
+pub counts_on : {c : Column} (log : List ℕ) (read : ℕ) → Working c → c.reader.n * read ≤ length log → length log < 2 ^ 64 → read < 2 ^ 64
+counts_on {c} log read W h l =
+    let k : 1 ≤ c.reader.n = omega (arith, W.reading.parties.least) in
+    let m : 1 * read ≤ c.reader.n * read = mul-le-mul_right read k in
+    omega arith

@@ -2,9 +2,9 @@
 -- Assumes nothing.
 use mathlib.Core.Path.{◌≡◌, refl, sym, subst, ◌∙◌}
 use mathlib.Core.List.{List}
-use Prim.Native.Nat.{ℕ, zero, suc, ◌+◌, ◌-◌, ◌*◌, ◌%◌, ◌^◌, ◌≤◌}
+use Prim.Native.Nat.{ℕ, zero, suc, ◌+◌, ◌-◌, ◌*◌, ◌%◌, ◌^◌, ◌≤◌, ◌<◌}
 use native.Mathlib.Omega.{arith}
-use lib.ListN.{take, drop}
+use lib.ListN.{length, take, drop}
 use Rattle.model.specs.Bytes.{sevens}
 use Rattle.model.specs.Costs.{mod_triples}
 use Rattle.model.specs.Deal.{Row}
@@ -24,6 +24,7 @@ use Rattle.secret.specs.declared.Row.{Row as Shares}
 use Rattle.std.specs.Prelude.{Result, Ok, Err}
 use Rattle.column_steps.specs.Reads.{table_of, own_of, Working, Standing, OpensTo, StopsAt, deal_from, record_from, read_from, Builder, ComesTo, Stops, Comes, past, past_mask, compared}
 use Rattle.column_steps.specs.Remainders.{u0_triples, f_triples, after_u1, after_u0, after_f, after_c, from_x, modded}
+use Rattle.column_steps.proofs.Opening.{counts_on}
 use Rattle.column_steps.proofs.Coming.{first_stops, then_comes, made_stops, made_comes}
 
 -- places past some triples, and then past some more
@@ -45,6 +46,10 @@ triples_of l m low high = omega arith
 
 module _ {c : Column} (W : Working c) (part log : List ℕ) (at : Ahead) where
   -- one step with j triples, and then one with k
+  pub next_places : (j k : ℕ) → Standing c part log at 0 (j + k) → length part < 2 ^ 64 → length log < 2 ^ 64 → (n : ℕ) → n ≡ 0
+      → (n ≡ 0 → c.reader.n * (at.opening + 2 * j) ≤ length log) → (at.triple + 12 * j < 2 ^ 64) × (at.opening + 2 * j < 2 ^ 64)
+  next_places j k S hp hl n z l = (omega (arith, S.triples), counts_on log (at.opening + 2 * j) W (l z) hl)
+
   two : {j : ℕ} (k : ℕ) {step : Builder} (then : Row → Builder) {x : Row} (r : Result Shares Refusal) → ComesTo c part log at (past at j) 0 j step x
       → Comes c part log (past at j) (past (past at j) k) 0 k (then x) r → Comes c part log at (past at (j + k)) 0 (j + k) (λ go. step (λ z. then z go)) r
   two {j} k {step} then r C D =
@@ -85,6 +90,9 @@ module _ {c : Column} (W : Working c) (part log : List ℕ) (at : Ahead) where
   module _ (m C : ℕ) (cells : List ℕ) (L : MaskBits c.setting m cells) where
     count : mod_triples c.setting.l m ≡ (c.setting.l - 1) + f_triples m
     count = triples_of c.setting.l m L.least L.within
+
+    pub c_standing : Standing c part log at 0 (mod_triples c.setting.l m) → Standing c part log at 0 ((c.setting.l - 1) + f_triples m)
+    c_standing S = rw count at S
 
     low : take m (sevens c.setting.l cells) ≡ sevens m cells
     low = low_sevens m c.setting.l cells L.within

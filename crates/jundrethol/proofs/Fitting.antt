@@ -24,12 +24,12 @@ joined_sevens zero [] h = refl
 joined_sevens zero (x ∷ xs) h = absurd (omega arith)
 joined_sevens (suc w) cells h = rw (joined_sevens w (drop 7 cells) (rw length-drop (omega arith))) (take-append-drop 7 cells)
 
-length_flags : (xs : List Bool) → length (flags xs) ≡ length xs
+pub length_flags : (xs : List Bool) → length (flags xs) ≡ length xs
 unfolding flags
 length_flags [] = refl
 length_flags (x ∷ xs) = ap suc (length_flags xs)
 
-flag_at : (xs : List Bool) (i : ℕ) → i < length xs → cond (get_or xs i false) 1 0 ≡ get_or (flags xs) i 0
+pub flag_at : (xs : List Bool) (i : ℕ) → i < length xs → cond (get_or xs i false) 1 0 ≡ get_or (flags xs) i 0
 unfolding flags
 flag_at [] i h = absurd (omega arith)
 flag_at (x ∷ xs) zero h = refl

@@ -5,14 +5,14 @@ use mathlib.Core.Bool.{Bool, true, false, cond}
 use mathlib.Core.Logic.{◌⊎◌, inl, inr}
 use mathlib.Core.List.{List, [], ◌∷◌, ◌++◌, map, map-append, append-nil, append_assoc}
 use Prim.Native.Nat.{ℕ, zero, suc, ◌+◌, ◌-◌, ◌/◌, ◌%◌, ◌^◌, ◌≤◌, ◌<◌}
-use native.Mathlib.Nat.{pow-suc, div-one, lt-div-mul-add, div-eq_of_lt, div-div-eq-div-mul, mul_comm}
+use native.Mathlib.Nat.{min-le_left, pow-suc, div-one, lt-div-mul-add, div-eq_of_lt, div-div-eq-div-mul, mul_comm}
 use native.Mathlib.Numerals.{add-one}
 use native.Mathlib.Omega.{arith}
 use borrow.Author.Tests.{lt-ltb, leb-true, leb-false, eqb-true, eq-eqb, ne_eqb}
 use lib.Dec.{ltb, leb, eqb, ltb→lt}
-use lib.ListN.{length, get_or, set, take, drop, length-append, length-set, take-append-drop}
+use lib.ListN.{length, get_or, set, take, drop, length-append, length-set, length-take, drop_of_length-le, take-append-drop}
 use lib.Pow.{pow_pos}
-use lib.Seq.{length-take-le, take_all, take-nil, take-append-le, take-suc-set, take-suc, get_or-take, get_or-set_other}
+use lib.Seq.{length-take-le, take_all, take-nil, take-append-le, take-suc-set, take-suc, drop-cons, get_or-take, get_or-set_other}
 use Rattle.algebra.specs.Ring.{sub, mul}
 use Rattle.algebra.specs.Lists.{Below, from}
 use Rattle.algebra.proofs.Ring.{ring, mod-ring, reduced}
@@ -183,6 +183,18 @@ below_parts : {p : ℕ} (xs ys : List ℕ) → Below p (xs ++ ys) → Below p xs
 below_parts {p} [] ys B = (below_nil p, B)
 below_parts (x ∷ xs) ys B = let r = below_parts xs ys (below_tail B) in (below_cons (below_head B) r.0, r.1)
 
+-- a weight, from the last party to the first
+pub weight_start : (p x e : ℕ) (zs : List ℕ) → 1 ≡ weight p (drop e (take e zs)) x
+unfolding weight
+weight_start p x e zs = rw (drop_of_length-le (take e zs) {i = e} (rw length-take (min-le_left e (length zs))))
+
+pub weight_more : (p x e : ℕ) (zs : List ℕ) (i : ℕ) {r w z : ℕ} → 0 < i → i ≤ e → e ≤ length zs → r ≡ ratio p x (get_or zs (i - 1) 0) → w ≡ weight p (drop i (take e zs)) x
+    → z ≡ mul p r w → z ≡ weight p (drop (i - 1) (take e zs)) x
+weight_more p x e zs i h l k a b c =
+    let s : suc (i - 1) ≡ i = omega arith in
+    let m : i - 1 < length (take e zs) = rw (length-take-le e zs k) (omega arith) in
+    c ∙ rw (drop-cons (take e zs) (i - 1) 0 m, s, get_or-take e zs (i - 1) 0 (omega arith), a, b) (unfold weight in refl)
+
 -- x's weight among some parties, from the last of them to the first: those that are left, and the weight among the others
 pub record Weighed (p x : ℕ) (parties left : List ℕ) (w : ℕ) : Type 0 where
   pub others : List ℕ
@@ -222,6 +234,16 @@ pub record Weighing (p : ℕ) (parties : List ℕ) (e i : ℕ) (ws : List ℕ) :
   pub size : length ws ≡ 4
   pub weights : take i ws ≡ map (weight p (take e parties)) (take i (take e parties))
   pub past : (k : ℕ) → i ≤ k → get_or ws k 0 ≡ 0
+
+pub weighing_start : (p : ℕ) (parties : List ℕ) (e : ℕ) → Weighing p parties e 0 (0 ∷ 0 ∷ 0 ∷ 0 ∷ [])
+weighing_start p parties e = record { done = omega arith; size = refl; weights = refl; past = λ k _. zeros k }
+  where
+    zeros : (k : ℕ) → ◌≡◌ {A = ℕ} (get_or (0 ∷ 0 ∷ 0 ∷ 0 ∷ []) k 0) 0
+    zeros zero = refl
+    zeros (suc zero) = refl
+    zeros (suc (suc zero)) = refl
+    zeros (suc (suc (suc zero))) = refl
+    zeros (suc (suc (suc (suc k)))) = refl
 
 module _ {p : ℕ} {parties : List ℕ} {e i : ℕ} {ws : List ℕ} (W : Weighing p parties e i ws) (l : length parties ≡ 4) (h : e ≤ 4) where
   pub weighing_more : {w : ℕ} → i < e → w ≡ weight p (take e parties) (get_or parties i 0) → Weighing p parties e (i + 1) (set ws i w)
@@ -275,6 +297,14 @@ pub ratio_other : (p x z : ℕ) {a b d r : ℕ} → (z ≡ x → ⊥) → a ≡ 
 ratio_other p x z n ea eb ed er = unfold ratio reciprocal in rw (ne_eqb z x n, ← ea, ← eb, ← ed) er
 
 -- the points of what was found
+pub four : (l : List ℕ) → length l ≡ 4 → get_or l 0 0 ∷ get_or l 1 0 ∷ get_or l 2 0 ∷ get_or l 3 0 ∷ [] ≡ l
+four [] e = absurd (omega arith)
+four (a ∷ []) e = absurd (omega arith)
+four (a ∷ b ∷ []) e = absurd (omega arith)
+four (a ∷ b ∷ c ∷ []) e = absurd (omega arith)
+four (a ∷ b ∷ c ∷ d ∷ []) e = refl
+four (a ∷ b ∷ c ∷ d ∷ x ∷ xs) e = absurd (omega arith)
+
 pub opens_by : {p n t b : ℕ} {x : Found} {ws : List ℕ} (o : Opening) → LowestOf n (suc t) b x → PermittedSet n t b → FirstWeights p x.parties (suc t) ws
     → o.present ≡ b → parties_of o ≡ x.parties → weights_of o ≡ ws → WorkedBy p n t o
 opens_by {p} {n} {t} o R Q W eb ep ew =

@@ -2,7 +2,7 @@
 -- Assumes nothing.
 use mathlib.Core.Path.{◌≡◌, refl, ap, ◌∙◌}
 use mathlib.Core.List.{List, []}
-use Prim.Native.Nat.{ℕ, suc, ◌+◌, ◌-◌, ◌*◌, ◌^◌, ◌≤◌, ◌<◌}
+use Prim.Native.Nat.{ℕ, zero, suc, ◌+◌, ◌-◌, ◌*◌, ◌^◌, ◌≤◌, ◌<◌}
 use native.Mathlib.Nat.{mul-le-mul_right}
 use native.Mathlib.Omega.{arith}
 use lib.ListN.{length, take, length-append}
@@ -21,6 +21,8 @@ use Rattle.model.proofs.Written.{length_written, written_append}
 use Rattle.model.proofs.Operands.{operands}
 use Rattle.model.proofs.Stretches.{ltz_finish, finishes_last, stretches}
 use Rattle.sharing.specs.declared.setting.Setting.{Setting}
+use Rattle.costs.specs.declared.counts.Counts as Code
+use Rattle.costs.specs.Costing.{counts_of, Summing}
 use Rattle.sheet.specs.declared.frame.Frame.{Frame}
 use Rattle.sheet.specs.Framed.{setting_from, setting_in}
 use Rattle.steps.specs.declared.places.Places.{Places}
@@ -131,6 +133,24 @@ module _ {s : List ℕ} {f : Frame} {k : Counts} {d a h w : ℕ} {cells₀ log�
               let y = T.holds shown log₀ shown₀ x C H in
               rw (e, finishes_last (setting_in f) (inputs_of s f) d a i w x) (counted_more (turn_ready l) y.0, P shown log₀ shown₀ _ y.0 y.1);
         })
+
+  module _ {i : ℕ} {x y : Code.Counts} {cells log : List ℕ} (T : Turned s f k d a w cells₀ log₁ i (counts_of x) cells log) where
+    pub turn_sums : i < h → counts_of y ≡ of_mask (mod_triples f.l (w - 1)) → k.inputs < 2 ^ 64 → k.revealed < 2 ^ 64 → f.masks < 2 ^ 64 → f.triples < 2 ^ 64 → length log < 2 ^ 64
+        → Summing x y
+    turn_sums l e hi hr hm ht hl =
+        let C = turn_ready T l in
+        let o : (x.openings + (1 + 2 * mod_triples f.l (w - 1))) ≤ (x.openings + (1 + 2 * mod_triples f.l (w - 1))) * f.n = at_least _ f.n (omega (arith, R.framed.headed.parties.least)) in
+        record {
+          inputs = rw (ap (λ (v : Counts). v.inputs) e) (omega (arith, ap (λ (v : Counts). v.inputs) T.spent_is));
+          masks = rw (ap (λ (v : Counts). v.masks) e) (omega (arith, C.mask));
+          triples = rw (ap (λ (v : Counts). v.triples) e) (omega (arith, C.triples));
+          openings = rw (ap (λ (v : Counts). v.openings) e) (omega (arith, C.openings, o));
+          revealed = rw (ap (λ (v : Counts). v.revealed) e) (omega (arith, ap (λ (v : Counts). v.revealed) T.spent_is));
+        }
+      where
+        at_least : (v n : ℕ) → 1 ≤ n → v ≤ v * n
+        at_least v zero h = absurd (omega arith)
+        at_least v (suc n) h = omega arith
 
   -- after h turns
   pub turned_end : {i : ℕ} {spent : Counts} {cells log : List ℕ} → Turned s f k d a w cells₀ log₁ i spent cells log → i ≡ h → OnCells s f k (LTZS d a h w) cells₀ log₁ cells log

@@ -1,4 +1,5 @@
 pub mod Sizes
 pub mod Decoding
 pub mod Lines
+pub mod Stretching
 pub mod Checking

@@ -65,6 +65,9 @@ module _ (s : List ℕ) (e : 0 ≡ first_failed (header_tests s)) where
 
     -- who is present, and then the limits
     module _ (present : ℕ) where
+      set_decides : {r : ℕ} → r ≡ first_failed (present_tests (header_of s) present ++ limit_tests (header_of s)) → r ≡ first_failed (run_tests present s)
+      set_decides k = passed_first (header_tests s) _ (header_numbered s) e k
+
       pub set_refused : false ≡ permitted_set h.n h.t present → 12 ≡ first_failed (present_tests (header_of s) present ++ limit_tests (header_of s))
       unfolding present_tests
       set_refused m = fails 12 _ (rw q at (sym m))
@@ -76,6 +79,12 @@ module _ (s : List ℕ) (e : 0 ≡ first_failed (header_tests s)) where
         pub set_passes : {n : ℕ} → n ≡ first_failed (limit_tests (header_of s)) → n ≡ first_failed (present_tests (header_of s) present ++ limit_tests (header_of s))
         unfolding present_tests
         set_passes k = passes 12 _ (rw q at (sym m)) k
+
+        pub within_limits_run : true ≡ limits h → 0 ≡ first_failed (run_tests present s)
+        within_limits_run l = set_decides (set_passes (within_limits l))
+
+        pub over_limits_run : false ≡ limits h → 4 ≡ first_failed (run_tests present s)
+        over_limits_run l = set_decides (set_passes (over_limits l))
 
 -- a frame of the header that was read
 pub headed_read : (s : List ℕ) {h : Header} {f : Frame} → h ≡ header_of s → Headed h f → Headed (header_of s) f

@@ -1,22 +1,25 @@
 -- The numbers of a header, the frame of one that is permitted, and what a frame says of its header.
 -- Assumes nothing.
 use mathlib.Core.Path.{◌≡◌, refl, sym, ap₂, ◌∙◌}
-use mathlib.Core.Bool.{◌&&◌}
+use mathlib.Core.Bool.{false, ◌&&◌}
 use mathlib.Core.List.{List, ◌++◌}
-use Prim.Native.Nat.{ℕ, ◌+◌, ◌*◌, ◌≤◌}
+use Prim.Native.Nat.{ℕ, ◌+◌, ◌*◌, ◌≤◌, ◌<◌}
 use native.Mathlib.Nat.{mul-le-mul}
 use native.Mathlib.Omega.{arith}
+use borrow.Author.Tests.{le-leb, lt-leb}
 use lib.Dec.{leb, le→leb}
 use lib.ListN.{get_or}
 use Rattle.algebra.proofs.Tests.{and_both}
 use Rattle.model.specs.Bytes.{number}
 use Rattle.model.specs.Deal.{Row, Deal}
+use Rattle.model.specs.Presence.{PermittedSet}
 use Rattle.model.specs.Fields.{Modulus, modulus, bits, largest_k}
 use Rattle.model.specs.Sheet.{Header, header_of, header_size, mask_bits, largest_in, setting_with, limits, implied_length, input_in, deal_in, deal_rows, rows_at, Permitted}
 use Rattle.model.proofs.SheetDeal.{all_rows}
 use Rattle.model.proofs.Lengths.{header_field, mask_bits_most, fitting, length_most}
+use Rattle.presence.specs.Openings.{WorkedBy}
 use Rattle.presence.specs.declared.Opening.{Opening}
-use Rattle.sheet.specs.Framed.{setting_in, inputs_of, deal_of, Headed}
+use Rattle.sheet.specs.Framed.{setting_in, inputs_of, deal_of, Headed, Presented}
 use Rattle.sheet.specs.declared.frame.Frame.{Frame}
 
 pub header_is : (s : List ℕ) {field n t inputs masks triples script : ℕ} → field ≡ get_or s 0 0 → n ≡ get_or s 1 0 → t ≡ get_or s 2 0 → inputs ≡ number 2 s 3
@@ -68,6 +71,53 @@ frame_is h P ep el ek =
       inputs_place = refl;
       masks_place = refl;
       triples_place = refl;
+    }
+
+-- the same frame, with its openings worked in another way
+pub headed_with : {h : Header} {f : Frame} (o : Opening) → Headed h f → Headed h (record {
+  p = f.p;
+  l = f.l;
+  largest = f.largest;
+  n = f.n;
+  t = f.t;
+  inputs = f.inputs;
+  masks = f.masks;
+  triples = f.triples;
+  script = f.script;
+  input = f.input;
+  mask = f.mask;
+  triple = f.triple;
+  opening = o;
+})
+headed_with o H =
+    record {
+      in_use = H.in_use;
+      p_is = H.p_is;
+      l_is = H.l_is;
+      k_is = H.k_is;
+      n_is = H.n_is;
+      t_is = H.t_is;
+      inputs_is = H.inputs_is;
+      masks_is = H.masks_is;
+      triples_is = H.triples_is;
+      script_is = H.script_is;
+      parties = H.parties;
+      inputs_most = H.inputs_most;
+      masks_most = H.masks_most;
+      triples_most = H.triples_most;
+      script_most = H.script_most;
+      inputs_place = H.inputs_place;
+      masks_place = H.masks_place;
+      triples_place = H.triples_place;
+    }
+
+pub presented : {h : Header} {f : Frame} {present : ℕ} {o : Opening} → Headed h f → PermittedSet h.n h.t present → (o.present ≡ present) × WorkedBy (modulus h.field) h.n h.t o
+    → (f' : Frame) → f'.p ≡ f.p → f'.n ≡ f.n → f'.t ≡ f.t → f'.opening ≡ o → Presented present f'
+presented {h} {f} {present} {o} H Q O f' ep en et eo =
+    record {
+      present_is = rw eo O.0;
+      permitted = rw (en, et, H.n_is, H.t_is) Q;
+      opens = rw (eo, ep, en, et, H.p_is, H.n_is, H.t_is) O.1;
     }
 
 -- what a frame says of its header
@@ -125,3 +175,21 @@ module _ {h : Header} {f : Frame} (H : Headed h f) where
 
   pub end_most : f.triple + 4 * f.n * 3 * f.triples ≤ 59723
   end_most = rw end_is (length_most h permitted)
+
+-- the limits, test by test
+module _ (h : Header) where
+  pub inputs_over : 64 < h.inputs → false ≡ limits h
+  unfolding limits
+  inputs_over a = rw (lt-leb h.inputs 64 a)
+
+  pub masks_over : h.inputs ≤ 64 → 16 < h.masks → false ≡ limits h
+  unfolding limits
+  masks_over a b = rw (le-leb h.inputs 64 a, lt-leb h.masks 16 b)
+
+  pub triples_over : h.inputs ≤ 64 → h.masks ≤ 16 → 512 < h.triples → false ≡ limits h
+  unfolding limits
+  triples_over a b c = rw (le-leb h.inputs 64 a, le-leb h.masks 16 b, lt-leb h.triples 512 c)
+
+  pub script_decides : h.inputs ≤ 64 → h.masks ≤ 16 → h.triples ≤ 512 → leb h.script 1024 ≡ limits h
+  unfolding limits
+  script_decides a b c = rw (le-leb h.inputs 64 a, le-leb h.masks 16 b, le-leb h.triples 512 c)

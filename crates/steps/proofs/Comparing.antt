@@ -3,7 +3,7 @@
 use mathlib.Core.Path.{◌≡◌, refl, ap, ◌∙◌}
 use mathlib.Core.Bool.{cond}
 use mathlib.Core.List.{List}
-use Prim.Native.Nat.{ℕ, suc, ◌+◌, ◌-◌, ◌*◌, ◌/◌, ◌≤◌, ◌<◌}
+use Prim.Native.Nat.{ℕ, suc, ◌+◌, ◌-◌, ◌*◌, ◌/◌, ◌^◌, ◌≤◌, ◌<◌}
 use native.Mathlib.Omega.{arith}
 use lib.ListN.{length, take, drop}
 use lib.Seq.{drop-drop}
@@ -14,10 +14,10 @@ use Rattle.model.specs.Trees as Trees
 use Rattle.sharing.specs.Settings.{setting_of}
 use Rattle.sharing.specs.declared.setting.Setting.{Setting}
 use Rattle.steps.specs.declared.places.Places.{Places}
-use Rattle.steps.specs.Places.{past_triples, Room}
+use Rattle.steps.specs.Places.{past_triples, Ahead, Room}
 use Rattle.steps.specs.Promises.{StepLeaves, Works}
 use Rattle.steps.proofs.Leaving.{done_leaves, product_then}
-use Rattle.steps.proofs.Rooms.{room_past}
+use Rattle.steps.proofs.Rooms.{room_first, room_past, room_ahead}
 
 -- what BITLT does from bit k on, with so many bits left
 abbrev from_bit : Setting → List ℕ → ℕ → ℕ → ℕ → Row → Tree Row Row
@@ -76,6 +76,16 @@ module _ {s : List ℕ} {S : Setting} {v w : ℕ} {bits : List ℕ} {at₀ : Pla
 
     turns_room : k < w → Room s log S at (1 + (C.turns - 1))
     turns_room h = rw (one_turn h) at C.room
+
+    -- the room of a turn, and that the places and the bit behind it are numbers of the code
+    pub turn_room : k < w → Room s log S at 1
+    turn_room h = room_first 1 _ (turns_room h)
+
+    pub turn_ahead : k < w → length s < 2 ^ 64 → length log₀ < 2 ^ 64 → Ahead S at 1
+    turn_ahead h hs hl = room_ahead 1 _ hs (rw C.kept hl) (turns_room h)
+
+    pub turn_counts : k < w → w < 2 ^ 64 → k + 1 < 2 ^ 64
+    turn_counts h l = omega arith
 
     pub comparing_more : {bit q next : Row} {log' : List ℕ} → k < w → bit ≡ take 7 (drop (7 * k) bits) → StepLeaves s S at 1 (product (setting_of S) bit lt) q log log'
         → length log' ≡ length log → next ≡ chosen (setting_of S) (odd rest) bit lt q → Comparing s S v w bits at₀ log₀ log' next (rest / 2) (past_triples S at 1) (k + 1)

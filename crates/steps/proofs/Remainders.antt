@@ -14,7 +14,7 @@ use Rattle.sharing.specs.declared.setting.Setting.{Setting}
 use Rattle.local.specs.declared.remainder.Publics.{Publics}
 use Rattle.local.specs.Unmasking.{publics, MaskBits, unmasked_by}
 use Rattle.steps.specs.declared.places.Places.{Places}
-use Rattle.steps.specs.Places.{past_triples, past_mask, Room}
+use Rattle.steps.specs.Places.{past_triples, past_mask, Bits, Room}
 use Rattle.steps.specs.Promises.{Opens, StepLeaves, Works, mask_at, MaskedLeaves}
 use Rattle.steps.specs.Remainders.{f_triples, after_u1, after_f, after_c}
 use Rattle.steps.proofs.Leaving.{log_then, done_leaves, product_then, comparison_then}
@@ -32,6 +32,12 @@ triples_of : (l m : ℕ) → 1 ≤ m → m ≤ l → mod_triples l m ≡ (l - 1)
 triples_of l m low high = omega arith
 
 module _ {S : Setting} {m : ℕ} {cells : List ℕ} (L : MaskBits S m cells) where
+  pub low_bits : Bits m cells
+  low_bits = record { some = L.least; there = omega (arith, L.within, L.there) }
+
+  pub all_bits : Bits S.l cells
+  all_bits = record { some = omega (arith, L.least, L.within); there = L.there }
+
   pub f_room : {s log : List ℕ} {at : Places} → Room s log S at (mod_triples S.l m) → Room s log S at ((S.l - 1) + f_triples m)
   f_room R = rw (triples_of S.l m L.least L.within) at R
 
