@@ -39,10 +39,8 @@ pub sign_past : (c : Column) (k : ℕ) (at : Ahead)
     ≡ past_signs c k at 1
 sign_past c k at =
     let n = mod_triples c.setting.l (k - 1) in
-    let a : at.mask + 4 * c.setting.l ≡ at.mask + 1 * (4 * c.setting.l) = omega arith in
-    let b : at.triple + 12 * n ≡ at.triple + 12 * (1 * n) = omega arith in
-    let e : at.opening + (1 + 2 * n) ≡ at.opening + 1 * (1 + 2 * n) = omega arith in
-    rw (a, b, e)
+    let e : at.opening + (1 + 2 * n) ≡ at.opening + 1 + 2 * n = omega arith in
+    rw e (one_sign c k at)
 
 pub sign_comes : (c : Column) (part log : List ℕ) (at : Ahead) (k : ℕ) {x y : Row} (r : Result Shares Refusal) → x ≡ y
     → Comes c part log at (past (past_mask c.setting.l at) (mod_triples c.setting.l (k - 1))) 1 (mod_triples c.setting.l (k - 1)) (cut_tree c (Ltz k) x) r
